@@ -1,0 +1,7 @@
+pub mod Limits
+pub mod Bits
+pub mod Lists
+pub mod Decisions
+pub mod Pattern
+pub mod Instances
+pub mod History
