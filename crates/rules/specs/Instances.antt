@@ -4,7 +4,7 @@ use mathlib.Core.Logic.{_⊎_}
 use Prim.Native.Nat.{ℕ, suc, _-_, _≤_, _<_, min, max}
 use Rattle.rules.specs.declared.Op.{Op}
 use Rattle.rules.specs.declared.Op.the-variants.{Either, Both, Without, Chain}
-use Rattle.rules.specs.Bits.{bit}
+use Rattle.rules.specs.Bits.{On}
 use Rattle.rules.specs.Pattern.{Pattern, event, pair, within}
 
 -- a record: the word of events of each tick
@@ -17,7 +17,7 @@ Instances = ℕ → ℕ → Type 0
 
 -- (t,t) for each tick t with that event
 abbrev pub Occurs : Record → ℕ → Instances
-Occurs r n s t = (s ≡ t) × (bit (r t) n ≡ 1)
+Occurs r n s t = (s ≡ t) × On (r t) n
 
 -- `|`: those of x and those of y
 -- `+`: (lesser start, greater end) for every instance of x with every one of y
