@@ -10,7 +10,6 @@ use lib.ListN.{length, length-append}
 use Rattle.rules.specs.declared.Op.the-variants.{Either, Both, Without, Chain}
 use Rattle.rules.specs.Bits.{bit}
 use Rattle.rules.specs.Lists.{In, All}
-use Rattle.rules.specs.Decisions.{pick}
 use Rattle.rules.specs.Pattern.{Pattern, event, pair, within}
 use Rattle.rules.proofs.Lists.{in-cases, in-one, in-two, all-map}
 use Rattle.detector.specs.Memory.{Span, none, Memory, fresh}

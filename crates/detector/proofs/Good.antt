@@ -1,18 +1,16 @@
 -- What a memory knows: `Good r e m τ` says that the memory m of the pattern e has seen all that ends before the tick τ in the record r.
 -- It holds of a fresh memory, and where nothing ends it goes on holding. Assumes nothing.
-use mathlib.Core.Path.{_≡_, refl, sym}
-use mathlib.Core.Logic.{inl, inr}
-use mathlib.Core.List.{List, [], _∷_, _++_}
-use Prim.Native.Nat.{ℕ, zero, suc, _≤_, _<_}
+use mathlib.Core.Path.{_≡_}
+use mathlib.Core.List.{List}
+use Prim.Native.Nat.{ℕ, suc, _<_}
 use native.Mathlib.Omega.{arith}
 use Rattle.rules.specs.declared.Op.the-variants.{Either, Both, Without, Chain}
 use Rattle.rules.specs.Lists.{In, All, Any}
 use Rattle.rules.specs.Pattern.{Pattern, event, pair, within}
 use Rattle.rules.specs.Instances.{Record, Instances, Has}
-use Rattle.rules.proofs.Lists.{in-cases, in-one, in-two, all-map}
-use Rattle.rules.proofs.Facts.{has-le}
-use Rattle.detector.specs.Memory.{Span, none, Memory, fresh}
-use Rattle.detector.specs.Possible.{startsOf, starts}
+use Rattle.rules.proofs.Lists.{all-map}
+use Rattle.detector.specs.Memory.{Span, Memory, fresh}
+use Rattle.detector.specs.Possible.{starts}
 
 -- a is start + 1 of the latest start of an instance that ends before τ, or 0 if none ends there
 pub record Top (X : Instances) (τ a : ℕ) : Type 0 where
@@ -90,35 +88,3 @@ fresh-good r (pair Without x y) = (fresh-good r x, fresh-good r y, top-fresh (Ha
 fresh-good r (pair Chain x y) =
     (fresh-good r x, fresh-good r y, top-fresh (Has r x), (λ s e. absurd (omega arith)), tt, λ σ i s u x k lt. absurd (omega arith))
 fresh-good r (within x n) = fresh-good r x
-
--- every possible start lies before τ
-top-le : {X : Instances} {τ a : ℕ} → ((s u : ℕ) → X s u → s ≤ u) → Top X τ a → a ≤ τ
-top-le {a = zero} f h = omega arith
-top-le {a = suc s} f h = let b = h .real s refl in omega (arith, f s (b .0) (b .2))
-
-pairs-le : {X : Instances} {τ : ℕ} → ((s u : ℕ) → X s u → s ≤ u) → (l : List Span) → All (Real X τ) l → (σ : ℕ) → In σ (startsOf l) → σ ≤ τ
-pairs-le f [] h σ i = absurd i
-pairs-le f (p ∷ l) h zero (inl e) = omega arith
-pairs-le f (p ∷ l) h (suc s) (inl e) = let b = h .0 s (sym e) in omega (arith, f s (b .0) (b .3))
-pairs-le f (p ∷ l) h σ (inr i) = pairs-le f l (h .1) σ i
-
-pub good-starts-le : (r : Record) (τ : ℕ) (e : Pattern) (m : Memory e) → Good r e m τ → (σ : ℕ) → In σ (starts e m) → σ ≤ τ
-good-starts-le r τ (event n) m g σ i = absurd i
-good-starts-le r τ (pair Either x y) m g σ i =
-    in-cases σ (starts x (m .0)) (starts y (m .1)) (good-starts-le r τ x (m .0) (g .0) σ) (good-starts-le r τ y (m .1) (g .1) σ) i
-good-starts-le r τ (pair Both x y) m g σ i =
-    in-cases σ (starts x (m .0)) (starts y (m .1) ++ (m .2 .start ∷ m .3 .start ∷ []))
-    (good-starts-le r τ x (m .0) (g .0) σ)
-    (in-cases σ (starts y (m .1)) (m .2 .start ∷ m .3 .start ∷ [])
-    (good-starts-le r τ y (m .1) (g .1) σ)
-    (in-two σ (m .2 .start) (m .3 .start) (λ e. omega (arith, top-le (has-le r x) (g .2))) (λ e. omega (arith, top-le (has-le r y) (g .3)))))
-    i
-good-starts-le r τ (pair Without x y) m g σ i = good-starts-le r τ x (m .0) (g .0) σ i
-good-starts-le r τ (pair Chain x y) m g σ i =
-    in-cases σ (starts x (m .0)) (startsOf (m .3) ++ (m .2 .start ∷ []))
-    (good-starts-le r τ x (m .0) (g .0) σ)
-    (in-cases σ (startsOf (m .3)) (m .2 .start ∷ [])
-    (pairs-le (has-le r x) (m .3) (g .4) σ)
-    (in-one σ (m .2 .start) (λ e. omega (arith, top-le (has-le r x) (g .2)))))
-    i
-good-starts-le r τ (within x n) m g σ i = good-starts-le r τ x m g σ i

@@ -5,7 +5,6 @@ use mathlib.Core.List.{List, [], _∷_, _++_}
 use Prim.Native.Nat.{ℕ, suc, _≤_, _<_}
 use native.Mathlib.Decide.{ℕ-discrete}
 use native.Mathlib.Omega.{arith}
-use Rattle.rules.specs.Decisions.{pick}
 use Rattle.rules.specs.Instances.{Record}
 use Rattle.rules.specs.History.{Tick, Rising, nextTick, recordOf}
 use Rattle.rules.proofs.Decisions.{pick-yes, pick-no}
@@ -42,6 +41,11 @@ record-follows r τ (k ∷ h) q f = (
 pub follows-split : (r : Record) (τ : ℕ) (h l : List Tick) → Follows r τ (h ++ l) → Follows r τ h × Follows r (nextTick τ h) l
 follows-split r τ [] l f = (tt, f)
 follows-split r τ (k ∷ h) l f = let b = follows-split r (suc (k .0)) h l (f .3) in ((f .0, f .1, f .2, b .0), b .1)
+
+-- what comes first of a history that rises, rises
+pub rising-before : (τ : ℕ) (h l : List Tick) → Rising τ (h ++ l) → Rising τ h
+rising-before τ [] l q = tt
+rising-before τ (k ∷ h) l q = (q .0, rising-before (suc (k .0)) h l (q .1))
 
 -- after one tick more, the next tick allowed is the one after it
 pub nextTick-snoc : (τ : ℕ) (h : List Tick) (k : Tick) → nextTick τ (h ++ (k ∷ [])) ≡ suc (k .0)

@@ -4,10 +4,10 @@ pub mod Operators
 pub mod From
 pub mod Choice
 pub mod Chain
-pub mod Step
-pub mod Exact
 pub mod Order
 pub mod Form
+pub mod Step
+pub mod Exact
 pub mod History
 pub mod Run
 pub mod Theorem

@@ -20,6 +20,7 @@ unfolding later
 later-start p a t =
     pick-cases (λ q. q .start ≡ max (p .start) a) (decLt (p .start) a) (record { start = a; end = suc t }) p (λ h. omega arith) (λ h. omega arith)
 
+-- and is an instance still
 pub later-real : {X : Instances} (p : Span) (a t : ℕ) → Real X t p → Latest X t a → Real X (suc t) (later p a t)
 unfolding later
 later-real {X} p a t h l =
@@ -27,6 +28,7 @@ later-real {X} p a t h l =
     (λ k s e. (t, refl, omega arith, l .real s e))
     (λ k s e. let b = h s e in (b .0, b .1, omega (arith, b .2), b .3))
 
+-- the latest start seen, with the answer at t, is the latest start seen up to t
 pub top-step : {X : Instances} {t a b : ℕ} → Top X t a → Latest X t b → (c : ℕ) → c ≡ max a b → Top X (suc t) c
 top-step {X} {t} {a} {b} h l c q = record {
   bound = λ s u x k. at s u x k (decLt u t);

@@ -10,6 +10,7 @@ use Rattle.detector.specs.Choice.{better, choose, insert, gather}
 use Rattle.detector.specs.Form.{Sorted}
 use Rattle.detector.proofs.Choice.{insert-cases, gather-cases, better-start}
 
+-- a pair put in its place keeps the starts strictly rising
 pub insert-sorted : (b : ℕ) (p : Span) (l : List Span) → b < p .start → Sorted b l → Sorted b (insert p l)
 unfolding insert
 insert-sorted b p [] k s = (k, tt)
@@ -27,6 +28,7 @@ insert-length p (q ∷ l) =
     insert-cases (λ k. length k ≤ suc (length (q ∷ l))) p q l
     (λ d. omega arith) (λ d. omega (arith, insert-length p l)) (λ d. omega arith)
 
+-- the kept pairs have starts strictly rising
 pub gather-sorted : (old : List Span) (ss : List ℕ) → Sorted 0 (gather old ss)
 unfolding gather
 gather-sorted old [] = tt
@@ -34,6 +36,7 @@ gather-sorted old (σ ∷ ss) =
     let i = gather-sorted old ss in
     gather-cases (Sorted 0) old σ ss (λ d. insert-sorted 0 (choose old σ) (gather old ss) d i) (λ d. i)
 
+-- and are no more than the possible starts
 pub gather-length : (old : List Span) (ss : List ℕ) → length (gather old ss) ≤ length ss
 unfolding gather
 gather-length old [] = omega arith

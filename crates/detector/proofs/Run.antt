@@ -16,7 +16,7 @@ use Rattle.detector.specs.Form.{Form}
 use Rattle.detector.proofs.Good.{Good, Same, good-move, fresh-good}
 use Rattle.detector.proofs.Step.{step}
 use Rattle.detector.proofs.Form.{fresh-form, in-form}
-use Rattle.detector.proofs.History.{Follows, record-follows, follows-split}
+use Rattle.detector.proofs.History.{Follows, record-follows, follows-split, rising-before}
 
 -- ticks without events end nothing
 good-skip :
@@ -31,33 +31,38 @@ good-skip r τ τ′ le z e m g = good-move r τ τ′ same e m g
     same : (e : Pattern) → Same (Has r e) τ τ′
     same e = record { there = λ s u k x. omega arith; back = λ s u k x. early e s u x k (decLt u τ) }
 
--- a run keeps the memory good
+-- a memory that a run reaches is in form, for the next tick allowed
+run-from-form : (e : Pattern) (τ : ℕ) (m : Memory e) (h : List Tick) → Rising τ h → Form τ e m → Form (nextTick τ h) e (run-from e m h)
+unfolding run-from
+run-from-form e τ m [] q f = f
+run-from-form e τ m (k ∷ h) q f = run-from-form e (suc (k .0)) (next e m (k .0) (k .1)) h (q .1) (in-form (k .0) (k .1) τ (q .0) e m f)
+
+pub run-form : (e : Pattern) (h : List Tick) → Rising 0 h → Form (nextTick 0 h) e (run e h)
+unfolding run
+run-form e h q = run-from-form e 0 (fresh e) h q (fresh-form e)
+
+-- a memory that a run reaches has seen all of its ticks
 run-good :
-    (r : Record) (e : Pattern) (τ : ℕ) (m : Memory e) (h : List Tick) → Follows r τ h → Good r e m τ →
+    (r : Record) (e : Pattern) (τ : ℕ) (m : Memory e) (h : List Tick) → Follows r τ h → Form τ e m → Good r e m τ →
     Good r e (run-from e m h) (nextTick τ h)
 unfolding run-from
-run-good r e τ m [] f g = g
-run-good r e τ m (k ∷ h) f g =
-    run-good r e (suc (k .0)) (next e m (k .0) (k .1)) h (f .3)
-    (step r (k .0) (k .1) (f .2) e m (good-skip r τ (k .0) (f .0) (f .1) e m g) .good)
+run-good r e τ m [] q f g = g
+run-good r e τ m (k ∷ h) q f g =
+    run-good r e (suc (k .0)) (next e m (k .0) (k .1)) h (q .3) (in-form (k .0) (k .1) τ (q .0) e m f)
+    (step r (k .0) (k .1) (q .2) τ (q .0) e m f (good-skip r τ (k .0) (q .0) (q .1) e m g) .good)
 
--- for any record that follows the ticks, the answer at the next tick is right
-run-follows :
-    (r : Record) (e : Pattern) (h : List Tick) (t w : ℕ) → Follows r 0 h → Follows r (nextTick 0 h) ((t, w) ∷ []) →
-    Latest (Has r e) t (answer e (run e h) t w)
-unfolding run
-run-follows r e h t w f l =
-    step r t w (l .2) e (run-from e (fresh e) h)
-    (good-skip r (nextTick 0 h) t (l .0) (l .1) e (run-from e (fresh e) h) (run-good r e 0 (fresh e) h f (fresh-good r e))) .right
-
--- for a tick in the midst of a history
+-- the answer at a tick in the midst of a history is right: the record follows the ticks before it, and has its events
 pub run-always :
     (e : Pattern) (h l : List Tick) (t w : ℕ) → Rising 0 (h ++ ((t, w) ∷ l)) →
     Latest (Has (recordOf (h ++ ((t, w) ∷ l))) e) t (answer e (run e h) t w)
+unfolding run
 run-always e h l t w q =
     let r : Record = recordOf (h ++ ((t, w) ∷ l)) in
-    let f = follows-split r 0 h ((t, w) ∷ l) (record-follows r 0 (h ++ ((t, w) ∷ l)) q (λ u a. refl)) in
-    run-follows r e h t w (f .0) (f .1 .0, f .1 .1, f .1 .2, tt)
+    let c = follows-split r 0 h ((t, w) ∷ l) (record-follows r 0 (h ++ ((t, w) ∷ l)) q (λ u a. refl)) in
+    let m : Memory e = run-from e (fresh e) h in
+    let g : Good r e m (nextTick 0 h) = run-good r e 0 (fresh e) h (c .0) (fresh-form e) (fresh-good r e) in
+    step r t w (c .1 .2) (nextTick 0 h) (c .1 .0) e m (run-form e h (rising-before 0 h ((t, w) ∷ l) q))
+    (good-skip r (nextTick 0 h) t (c .1 .0) (c .1 .1) e m g) .right
 
 -- one tick more steps the memory once
 run-from-snoc :
@@ -70,13 +75,3 @@ run-from-snoc e m (l ∷ h) k = run-from-snoc e (next e m (l .0) (l .1)) h k
 pub run-snoc : (e : Pattern) (h : List Tick) (k : Tick) → run e (h ++ (k ∷ [])) ≡ next e (run e h) (k .0) (k .1)
 unfolding run
 run-snoc e h k = run-from-snoc e (fresh e) h k
-
--- a memory that a run reaches is in form
-run-from-form : (e : Pattern) (τ : ℕ) (m : Memory e) (h : List Tick) → Rising τ h → Form τ e m → Form (nextTick τ h) e (run-from e m h)
-unfolding run-from
-run-from-form e τ m [] q f = f
-run-from-form e τ m (k ∷ h) q f = run-from-form e (suc (k .0)) (next e m (k .0) (k .1)) h (q .1) (in-form (k .0) (k .1) τ (q .0) e m f)
-
-pub run-form : (e : Pattern) (h : List Tick) → Rising 0 h → Form (nextTick 0 h) e (run e h)
-unfolding run
-run-form e h q = run-from-form e 0 (fresh e) h q (fresh-form e)

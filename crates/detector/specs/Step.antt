@@ -17,7 +17,7 @@ later p a t = pick (decLt (p .start) a) (record { start = a; end = suc t }) p
 
 -- letter: (t,t) if it occurs
 -- `|`: the later start
--- `+`: the greater of min(x, right) and min(left, y) over starts, left and right being what they become (`BothAsWorded` of Claim has the other words)
+-- `+`: the greater of min(x, right) and min(left, y) over starts, left and right as they become (Claim's `BothAsWorded` has all the words)
 -- `-`: x's answer stands if it starts strictly later than the latest start of y seen
 -- `;`: from the kept pairs and latest as they were, the pair ending before y's start with the latest start
 -- `@`: its operand's answer if short enough
