@@ -1,2 +1,5 @@
 pub mod Bytes
 pub mod Scan
+pub mod Stacks
+pub mod Machines
+pub mod Walk
