@@ -1,4 +1,5 @@
 pub mod Bytes
+pub mod Entries
 pub mod Scan
 pub mod Stacks
 pub mod Machines
