@@ -6,3 +6,4 @@ pub mod Trees
 pub mod Stacks
 pub mod Machines
 pub mod Walk
+pub mod Bodies

@@ -1,14 +1,14 @@
 -- Entries and trees: the entries of a tree pass the check, and any entries either are those of one tree or have a lowest one that
 -- breaks a rule. By induction on the entries, with the trees found so far. Assumes nothing.
-use Prim.Native.Nat.{ℕ, _+_, _-_, _≤_}
+use Prim.Native.Nat.{ℕ, suc, _+_, _-_, _≤_}
 use mathlib.Core.Path.{_≡_, refl, sym, ap, _∙_}
-use mathlib.Core.Logic.{inl, inr}
+use mathlib.Core.Logic.{inl, inr, ⊎-elim}
 use mathlib.Core.List.{List, [], _∷_, _++_, append-assoc, append-nil}
 use mathlib.Core.Option.{Option, none, some}
 use native.Mathlib.Omega.{arith}
-use lib.ListN.{length, length-append}
-use lib.Seq.{take-at, getD-at}
-use borrow.Author.Tests.{le-leb, ne-eqb}
+use lib.ListN.{length, getD, drop, length-append, take-append-drop, drop-of-length-le}
+use lib.Seq.{take-at, getD-at, drop-cons, length-take-le}
+use borrow.Author.Tests.{le-leb, lt-leb, ne-eqb}
 use Rattle.rules.specs.declared.Op.{Op}
 use Rattle.rules.specs.Lists.{All}
 use Rattle.rules.specs.Pattern.{Pattern, event, pair, within, size, Proper}
@@ -152,3 +152,44 @@ scan-outcome (Within n ∷ ss) (x ∷ st) i p h =
     rw (le-leb 1 (length t) (omega arith)) (passed (Within n) ss (forest t) (forest t′) g (scan ss (i + 1) (length t′))
     (scan-outcome ss t′ (i + 1) (next-place (Within n) ss (forest t) (forest t′) g i p) (omega arith)))
 scan-outcome (Wrong ∷ ss) st i p h = broken-at Wrong ss st i p tt
+
+pub lowest-le : (es : List Entry) (i : ℕ) → Lowest es i → i ≤ length es
+lowest-le es i l = ⊎-elim (λ h. omega (arith, h .0)) (λ h. omega (arith, h .0)) (l .broken)
+
+-- whole trees pass
+scan-forest : (st : List Pattern) (rest : List Entry) → scan (forest st ++ rest) 0 0 ≡ scan rest (length (forest st)) (length st)
+unfolding forest
+scan-forest [] rest = refl
+scan-forest (e ∷ st) rest =
+    rw (append-assoc (forest st) (postfix e) rest, length-append (forest st) (postfix e), length-postfix e)
+    (scan-forest st (postfix e ++ rest)
+    ∙ scan-postfix e rest (length (forest st)) (length st)
+    ∙ ap (scan rest (length (forest st) + size e)) (omega arith))
+
+-- and the entry after them is refused if it breaks a rule
+scan-breaks : (s : Entry) (ss : List Entry) (i d : ℕ) → Breaks s d → scan (s ∷ ss) i d ≡ some i
+unfolding scan depthOf
+scan-breaks (Letter n) ss i d h = absurd h
+scan-breaks (Pair op) ss i d h = rw (lt-leb 2 d h)
+scan-breaks (Within n) ss i d h = rw (lt-leb 1 d h)
+scan-breaks Wrong ss i d h = refl
+
+scan-several : (i d : ℕ) → 2 ≤ d → scan [] i d ≡ some i
+unfolding scan
+scan-several i d h = rw (ne-eqb d 1 (omega arith))
+
+-- the check finds the lowest entry that breaks a rule, which there is at most one of
+pub lowest-scan : (es : List Entry) (i : ℕ) → Lowest es i → scan es 0 0 ≡ some i
+lowest-scan es i l =
+    let d : ℕ = length (l .trees) in
+    let place : length (forest (l .trees)) ≡ i = ap length (sym (l .whole)) ∙ length-take-le i es (lowest-le es i l) in
+    let split : es ≡ forest (l .trees) ++ drop i es = sym (take-append-drop i es) ∙ ap (λ (p : List Entry). p ++ drop i es) (l .whole) in
+    let rest : scan (drop i es) i d ≡ some i =
+        ⊎-elim
+        (λ h. rw (drop-cons es i Wrong (h .0)) (scan-breaks (getD es i Wrong) (drop (suc i) es) i d (h .1)))
+        (λ h. rw (drop-of-length-le es {i = i} (omega (arith, h .0))) (scan-several i d (h .1)))
+        (l .broken) in
+    ap (λ (r : List Entry). scan r 0 0) split
+    ∙ scan-forest (l .trees) (drop i es)
+    ∙ ap (λ (j : ℕ). scan (drop i es) j d) place
+    ∙ rest
