@@ -1,0 +1,3 @@
+pub mod Words
+pub mod Cell
+pub mod Form

@@ -1,0 +1,1 @@
+// The cell of one operator: the words that it keeps between ticks, their form, and what a tick makes of them.

@@ -1,0 +1,50 @@
+-- What is claimed of the watcher: demand 3, on the promises of its calls. Assumes nothing: these are definitions.
+use mathlib.Core.Path.{_≡_}
+use mathlib.Core.Logic.{_↔_}
+use mathlib.Core.Bool.{true}
+use mathlib.Core.List.{List, [], _∷_, _++_}
+use Prim.Native.Nat.{ℕ, suc, _≤_, _<_}
+use lib.ListN.{length}
+use Rattle.rules.specs.Limits.{argumentBytes, ticks}
+use Rattle.rules.specs.Pattern.{Pattern}
+use Rattle.rules.specs.Instances.{Has, Latest}
+use Rattle.rules.specs.History.{Tick, Rising, nextTick, recordOf}
+use Rattle.body.specs.Claim.{BodyOf}
+use Rattle.watcher.specs.declared.Opening.the-variants as Opens
+use Rattle.watcher.specs.declared.Ticking.{Ticking}
+use Rattle.watcher.specs.declared.Ticking.the-variants as Ticks
+use Rattle.watcher.specs.State.{InForm}
+use Rattle.watcher.specs.Answer.{OpenAnswers, TickAnswers}
+use Rattle.watcher.specs.Walk.{formed}
+
+-- a slice that was opened with a body and then only ticked: the ticks accepted so far, in order, and its words now
+pub data Watched (b : List ℕ) : List Tick → List ℕ → Type 0 where
+  opened : {old s : List ℕ} → OpenAnswers b old s Opens.Opened → Watched b [] s
+  window : {h : List Tick} {s s′ : List ℕ} (t w start : ℕ) → Watched b h s → TickAnswers s s′ t w (Ticks.Window start) → Watched b (h ++ ((t, w) ∷ [])) s′
+  nothing : {h : List Tick} {s s′ : List ℕ} (t w : ℕ) → Watched b h s → TickAnswers s s′ t w Ticks.Nothing → Watched b (h ++ ((t, w) ∷ [])) s′
+
+-- start + 1 of the window reported, or 0
+abbrev pub reported : ℕ → Ticking → Type 0
+reported a (Ticks.Window start) = a ≡ suc start
+reported a Ticks.Nothing = a ≡ 0
+reported a (Ticks.Refused r) = ⊥
+
+-- at each tick that rises and is in range the report is a window exactly if the rules have an instance ending there, and its start is the latest;
+-- so no such tick is refused
+abbrev pub Agrees : Type 0
+Agrees =
+    (b : List ℕ) (e : Pattern) → BodyOf argumentBytes b e → (h : List Tick) (s s′ : List ℕ) → Watched b h s
+    → (t w : ℕ) (r : Ticking) → nextTick 0 h ≤ t → t < ticks → TickAnswers s s′ t w r
+    → (a : ℕ) × reported a r × Latest (Has (recordOf (h ++ ((t, w) ∷ []))) e) t a
+
+-- and the state stays in form
+abbrev pub StaysInForm : Type 0
+StaysInForm = (b : List ℕ) (h : List Tick) (s : List ℕ) → Watched b h s → InForm s
+
+-- the form judged is the form stated
+abbrev pub FormedExactly : Type 0
+FormedExactly = (s : List ℕ) → (formed s ≡ true) ↔ InForm s
+
+-- no second answer and no second slice meet the promise of a tick
+abbrev pub OneTick : Type 0
+OneTick = (s s′ s″ : List ℕ) (t w : ℕ) (r r′ : Ticking) → TickAnswers s s′ t w r → TickAnswers s s″ t w r′ → (r ≡ r′) × (s′ ≡ s″)

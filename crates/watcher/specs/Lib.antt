@@ -1,0 +1,4 @@
+pub mod State
+pub mod Answer
+pub mod Walk
+pub mod Claim

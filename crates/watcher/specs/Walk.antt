@@ -1,0 +1,95 @@
+-- The walks over a state's entries, as machines: its form judged, and a tick. Inner contracts cite these, no public call does.
+-- Assumes nothing: these are definitions.
+use mathlib.Core.Path.{_≡_}
+use mathlib.Core.Bool.{Bool, true, false, cond}
+use mathlib.Core.List.{List, [], _∷_, _++_}
+use mathlib.Core.Option.{Option, none, some}
+use Prim.Native.Nat.{ℕ, suc, _+_, _/_, _%_}
+use native.Mathlib.Decide.{decLe, ℕ-discrete}
+use lib.Dec.{leb, eqb}
+use lib.ListN.{length, getD, take, drop}
+use Rattle.rules.specs.declared.Op.{Op}
+use Rattle.rules.specs.Bits.{bit}
+use Rattle.rules.specs.Decisions.{pick}
+use Rattle.rules.specs.Limits.{argumentBytes, mostEntries, ticks}
+use Rattle.body.specs.declared.Entry.{Entry}
+use Rattle.body.specs.Entry.{entryOf, entriesBy}
+use Rattle.body.specs.Check.{scan}
+use Rattle.body.specs.Machine.{Machine, run}
+use Rattle.cell.specs.Cell.{cellWords, possible, cellAnswer, cellAfter, startsAfter}
+use Rattle.cell.specs.Form.{cellFits}
+
+-- entry i of a state
+unfoldable pub entryIn : List ℕ → ℕ → Entry
+entryIn s i = entryOf argumentBytes (getD s (i + 2) 0 % 256) (getD s (i + 2) 0 / 256)
+
+-- the words of a cell judged: those after it, or none if they are too few or not in form
+unfoldable pub judgeCell : ℕ → Op → ℕ → List ℕ → Option (List ℕ)
+judgeCell τ op y ahead =
+    cond (leb (cellWords op y) (length ahead)) (cond (cellFits τ op (take (cellWords op y) ahead)) (some (drop (cellWords op y) ahead)) none) none
+
+abbrev pub onAhead : Option (List ℕ) → (List ℕ → Option (List ℕ)) → Option (List ℕ)
+onAhead none go = none
+onAhead (some ahead) go = go ahead
+
+-- p on the stack, and the words not yet judged
+abbrev pub judgeM : ℕ → Machine
+judgeM τ =
+    record
+      { X = ℕ
+      ; G = Option (List ℕ)
+      ; onLetter = λ n g. (0, g)
+      ; onPair = λ op x y g. (possible op x y, onAhead g (judgeCell τ op y))
+      ; onWithin = λ n x g. (x, g)
+      }
+
+abbrev pub isSome : Option (List ℕ) → Bool
+isSome none = false
+isSome (some l) = true
+
+abbrev pub isNone : Option ℕ → Bool
+isNone none = true
+isNone (some i) = false
+
+-- the state is in form, computed: the number of entries, their words, a sound body, the next tick, and every cell
+unfoldable pub formed : List ℕ → Bool
+formed s =
+    cond (leb 1 (getD s 0 0)) (cond (leb (getD s 0 0) mostEntries) (cond (leb (2 + getD s 0 0) (length s))
+    (cond (isNone (scan (entriesBy (entryIn s) 0 (getD s 0 0)) 0 0)) (cond (leb (getD s 1 0) ticks)
+    (isSome (run (judgeM (getD s 1 0)) (entriesBy (entryIn s) 0 (getD s 0 0)) [] (some (drop (2 + getD s 0 0) s)) .1)) false) false) false) false) false
+
+-- on the stack: an answer, and the possible starts, as many as p
+abbrev pub Value : Type 0
+Value = ℕ × List ℕ
+
+-- the words of the cells written, and those ahead
+abbrev pub Cells : Type 0
+Cells = List ℕ × List ℕ
+
+unfoldable pub tickPair : ℕ → Op → Value → Value → Cells → Value × Cells
+tickPair t op x y g =
+    let n : ℕ = cellWords op (length (y .1)) in
+    let c : List ℕ = take n (g .1) in
+    let c′ : List ℕ = cellAfter op t (x .0) (y .0) (y .1) c in
+    ((cellAnswer op t (x .0) (y .0) c, startsAfter op (x .1) (y .1) c′), (g .0 ++ c′, drop n (g .1)))
+
+-- a letter's answer, and a restriction's
+abbrev pub letterAnswer : ℕ → ℕ → ℕ → ℕ
+letterAnswer t w n = pick (ℕ-discrete (bit w n) 1) (suc t) 0
+
+abbrev pub withinAnswer : ℕ → ℕ → ℕ → ℕ
+withinAnswer t n a = pick (decLe (suc t) (a + n)) a 0
+
+abbrev pub tickM : ℕ → ℕ → Machine
+tickM t w =
+    record
+      { X = Value
+      ; G = Cells
+      ; onLetter = λ n g. ((letterAnswer t w n, []), g)
+      ; onPair = tickPair t
+      ; onWithin = λ n x g. ((withinAnswer t n (x .0), x .1), g)
+      }
+
+-- all the entries of a state: the stack, and the cells written and ahead
+unfoldable pub ticked : ℕ → ℕ → List ℕ → List Value × Cells
+ticked t w s = run (tickM t w) (entriesBy (entryIn s) 0 (getD s 0 0)) [] ([], drop (2 + getD s 0 0) s)
