@@ -60,14 +60,14 @@ pub fits-proper : (wrong : Type 0) (bound : ℕ) (e : Pattern) → All (Fits wro
 unfolding postfix
 fits-proper wrong bound (event n) h = h .0
 fits-proper wrong bound (pair op x y) h =
-    let t = all-right (Fits wrong bound) (postfix x) (postfix y ++ (Pair op ∷ [])) h in
-    ( fits-proper wrong bound x (all-left (Fits wrong bound) (postfix x) (postfix y ++ (Pair op ∷ [])) h)
-    , fits-proper wrong bound y (all-left (Fits wrong bound) (postfix y) (Pair op ∷ []) t)
+    let t = all-right (Fits wrong bound) (postfix x) (postfix y ++ (Pair op ∷ [])) h in (
+      fits-proper wrong bound x (all-left (Fits wrong bound) (postfix x) (postfix y ++ (Pair op ∷ [])) h),
+      fits-proper wrong bound y (all-left (Fits wrong bound) (postfix y) (Pair op ∷ []) t),
     )
-fits-proper wrong bound (within x n) h =
-    ( fits-proper wrong bound x (all-left (Fits wrong bound) (postfix x) (Within n ∷ []) h)
-    , all-right (Fits wrong bound) (postfix x) (Within n ∷ []) h .0
-    )
+fits-proper wrong bound (within x n) h = (
+  fits-proper wrong bound x (all-left (Fits wrong bound) (postfix x) (Within n ∷ []) h),
+  all-right (Fits wrong bound) (postfix x) (Within n ∷ []) h .0,
+)
 
 -- an operator that finds its operands
 scan-pair : (op : Op) (ss : List Entry) (i d : ℕ) → scan (Pair op ∷ ss) i (d + 1 + 1) ≡ scan ss (i + 1) (d + 1)
@@ -100,20 +100,21 @@ Outcome es none = (e : Pattern) × (es ≡ postfix e)
 Outcome es (some i) = Lowest es i
 
 -- the entry at i breaks a rule
-broken-at : (s : Entry) (ss : List Entry) (st : List Pattern) (i : ℕ) → i ≡ length (forest st) → Breaks s (length st) → Lowest (forest st ++ (s ∷ ss)) i
-broken-at s ss st i p h = record
-  { trees = st
-  ; whole = take-at (forest st) (s ∷ ss) i (sym p)
-  ; broken = inl (simp length-append (omega arith), rw (getD-at (forest st) s ss Wrong i (sym p)) h)
-  }
+broken-at : (s : Entry) (ss : List Entry) (st : List Pattern) (i : ℕ) → i ≡ length (forest st) → Breaks s (length st)
+    → Lowest (forest st ++ (s ∷ ss)) i
+broken-at s ss st i p h = record {
+  trees = st;
+  whole = take-at (forest st) (s ∷ ss) i (sym p);
+  broken = inl (simp length-append (omega arith), rw (getD-at (forest st) s ss Wrong i (sym p)) h);
+}
 
 -- several trees are left
 several-left : (st : List Pattern) (i : ℕ) → i ≡ length (forest st) → 2 ≤ length st → Lowest (forest st ++ []) i
-several-left st i p h = record
-  { trees = st
-  ; whole = take-at (forest st) [] i (sym p)
-  ; broken = inr (simp length-append (omega arith), h)
-  }
+several-left st i p h = record {
+  trees = st;
+  whole = take-at (forest st) [] i (sym p);
+  broken = inr (simp length-append (omega arith), h);
+}
 
 -- an entry passed is the last of the trees found so far
 module _ (s : Entry) (ss : List Entry) (es es′ : List Entry) (p : es′ ≡ es ++ (s ∷ [])) where
@@ -185,10 +186,10 @@ lowest-scan es i l =
     let place : length (forest (l .trees)) ≡ i = ap length (sym (l .whole)) ∙ length-take-le i es (lowest-le es i l) in
     let split : es ≡ forest (l .trees) ++ drop i es = sym (take-append-drop i es) ∙ ap (λ (p : List Entry). p ++ drop i es) (l .whole) in
     let rest : scan (drop i es) i d ≡ some i =
-        ⊎-elim
-        (λ h. rw (drop-cons es i Wrong (h .0)) (scan-breaks (getD es i Wrong) (drop (suc i) es) i d (h .1)))
-        (λ h. rw (drop-of-length-le es {i = i} (omega (arith, h .0))) (scan-several i d (h .1)))
-        (l .broken) in
+    ⊎-elim
+    (λ h. rw (drop-cons es i Wrong (h .0)) (scan-breaks (getD es i Wrong) (drop (suc i) es) i d (h .1)))
+    (λ h. rw (drop-of-length-le es {i = i} (omega (arith, h .0))) (scan-several i d (h .1)))
+    (l .broken) in
     ap (λ (r : List Entry). scan r 0 0) split
     ∙ scan-forest (l .trees) (drop i es)
     ∙ ap (λ (j : ℕ). scan (drop i es) j d) place
