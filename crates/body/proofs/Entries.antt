@@ -95,7 +95,7 @@ entries-bytes width w (s ∷ ss) h =
     ∙ entries-bytes width w ss (h .1))
 
 -- what is read fits, or breaks a rule by itself
-entry-fits : (width op argument : ℕ) → Fits (Unit {0}) (256 ^ width) (entryOf width op argument)
+pub entry-fits : (width op argument : ℕ) → Fits (Unit {0}) (256 ^ width) (entryOf width op argument)
 unfolding entryOf
 entry-fits width op argument = go (eqb op 0) (ltb argument 32) (ltb op 5) (eqb argument 0) (eqb op 5) (ltb argument (256 ^ width)) refl refl
   where
@@ -110,10 +110,15 @@ entry-fits width op argument = go (eqb op 0) (ltb argument 32) (ltb op 5) (eqb a
     go false t₂ false t₄ true false p q = tt
     go false t₂ false t₄ false t₆ p q = tt
 
-pub entries-fit : (width : ℕ) (b : List ℕ) (i n : ℕ) → All (Fits (Unit {0}) (256 ^ width)) (entriesBy (entryAt width b) i n)
-unfolding entriesBy entryAt
-entries-fit width b i zero = tt
-entries-fit width b i (suc n) = (entry-fits width _ _, entries-fit width b (i + 1) n)
+pub entries-fit : (wrong : Type 0) (bound : ℕ) (f : ℕ → Entry) → ((i : ℕ) → Fits wrong bound (f i)) → (i n : ℕ)
+    → All (Fits wrong bound) (entriesBy f i n)
+unfolding entriesBy
+entries-fit wrong bound f h i zero = tt
+entries-fit wrong bound f h i (suc n) = (h i, entries-fit wrong bound f h (i + 1) n)
+
+pub read-fits : (width : ℕ) (b : List ℕ) (i : ℕ) → Fits (Unit {0}) (256 ^ width) (entryAt width b i)
+unfolding entryAt
+read-fits width b i = entry-fits width _ _
 
 -- an op number from 1 to 4 is that of its operator
 op-number : (op : ℕ) → (op ≡ 0 → ⊥) → op < 5 → opNumber (opOf op) ≡ op

@@ -1,7 +1,7 @@
 -- Entries and trees: the entries of a tree pass the check, and any entries either are those of one tree or have a lowest one that
 -- breaks a rule. By induction on the entries, with the trees found so far. Assumes nothing.
 use Prim.Native.Nat.{ℕ, suc, _+_, _-_, _≤_}
-use mathlib.Core.Path.{_≡_, refl, sym, ap, _∙_}
+use mathlib.Core.Path.{_≡_, refl, sym, ap, subst, _∙_}
 use mathlib.Core.Logic.{inl, inr, ⊎-elim}
 use mathlib.Core.List.{List, [], _∷_, _++_, append-assoc, append-nil}
 use mathlib.Core.Option.{Option, none, some}
@@ -153,6 +153,12 @@ scan-outcome (Within n ∷ ss) (x ∷ st) i p h =
     rw (le-leb 1 (length t) (omega arith)) (passed (Within n) ss (forest t) (forest t′) g (scan ss (i + 1) (length t′))
     (scan-outcome ss t′ (i + 1) (next-place (Within n) ss (forest t) (forest t′) g i p) (omega arith)))
 scan-outcome (Wrong ∷ ss) st i p h = broken-at Wrong ss st i p tt
+
+-- entries that pass are those of a tree
+pub scan-tree : (es : List Entry) → scan es 0 0 ≡ none → (e : Pattern) × (es ≡ postfix e)
+unfolding scan forest
+scan-tree [] p = let z : _≡_ {A = ℕ} 0 1 = cc in absurd (omega arith)
+scan-tree (s ∷ ss) p = subst (Outcome (s ∷ ss)) p (scan-outcome (s ∷ ss) [] 0 refl (omega arith))
 
 pub lowest-le : (es : List Entry) (i : ℕ) → Lowest es i → i ≤ length es
 lowest-le es i l = ⊎-elim (λ h. omega (arith, h .0)) (λ h. omega (arith, h .0)) (l .broken)
