@@ -20,7 +20,8 @@ use Rattle.body.specs.Machine.{Machine, run, eval}
 use Rattle.body.specs.Claim.{BodyOf, AcceptedExactly, OnePattern, forest, RefusedLowest, LowestRefused, Counted, RefusedSize, Answered}
 use Rattle.body.proofs.Entries.{length-entries, entries-bytes, entries-fit, read-fits, bytes-entries}
 use Rattle.body.proofs.Sizes.{sized-whole, whole-count, whole-sized, sound-parts, body-parts, size-part, check-by, check-size}
-use Rattle.body.proofs.Trees.{size-pos, length-postfix, proper-fits, fits-proper, scan-postfix, Outcome, scan-outcome, scan-tree, lowest-le, lowest-scan}
+use Rattle.body.proofs.Trees.{size-pos, length-postfix, proper-fits, fits-proper, scan-postfix}
+use Rattle.body.proofs.Trees.{Outcome, scan-outcome, scan-tree, lowest-le, lowest-scan}
 use Rattle.body.proofs.Machines.{run-postfix}
 
 -- the body of a pattern
