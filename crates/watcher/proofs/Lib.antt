@@ -1,1 +1,4 @@
 pub mod Entries
+pub mod Cells
+pub mod Fits
+pub mod Judges
