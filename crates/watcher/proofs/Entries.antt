@@ -3,7 +3,7 @@
 use Prim.Native.Nat.{ℕ, zero, suc, _+_, _*_, _/_, _%_, _<_, _≤_, _^_}
 use mathlib.Core.Path.{_≡_, refl, sym, ap, ap₂, subst, _∙_}
 use mathlib.Core.Bool.{Bool, true, false, cond}
-use mathlib.Core.List.{List, [], _∷_, _++_}
+use mathlib.Core.List.{List, [], _∷_, _++_, append-nil}
 use native.Mathlib.Nat.{add-zero}
 use native.Mathlib.Omega.{arith}
 use lib.Dec.{eqb, ltb}
@@ -18,8 +18,10 @@ use Rattle.body.specs.declared.Entry.{Entry}
 use Rattle.body.specs.declared.Entry.the-variants.{Letter, Pair, Within, Wrong}
 use Rattle.body.specs.Entry.{opNumber, opOf, entryOf, entriesBy}
 use Rattle.body.specs.Postfix.{postfix}
+use Rattle.body.specs.Machine.{Machine, run, eval}
 use Rattle.body.proofs.Entries.{Fits, entry-fits}
 use Rattle.body.proofs.Trees.{length-postfix, proper-fits}
+use Rattle.body.proofs.Machines.{run-postfix}
 use Rattle.watcher.specs.State.{wordOf, entryWords}
 use Rattle.watcher.specs.Walk.{entryIn}
 
@@ -117,3 +119,8 @@ pub length-words : (ss : List Entry) → length (entryWords ss) ≡ length ss
 unfolding entryWords
 length-words [] = refl
 length-words (e ∷ ss) = ap suc (length-words ss)
+
+-- a machine over the entries of one tree
+pub run-tree : (M : Machine) (e : Pattern) (g : M .G) → run M (postfix e) [] g ≡ (eval M e g .0 ∷ [], eval M e g .1)
+unfolding run
+run-tree M e g = rw (append-nil (postfix e)) at (run-postfix M e [] [] g)

@@ -12,6 +12,7 @@ use lib.Seq.{take-at, drop-at, length-take-le}
 use borrow.Author.Tests.{le-leb, leb-true}
 use Rattle.rules.specs.declared.Op.{Op}
 use Rattle.rules.specs.Limits.{argumentBytes, mostEntries, ticks}
+use Rattle.rules.specs.Lists.{All}
 use Rattle.rules.specs.Pattern.{Pattern, event, pair, within, size}
 use Rattle.detector.specs.Memory.{Memory}
 use Rattle.detector.specs.Possible.{p}
@@ -21,13 +22,16 @@ use Rattle.body.specs.Entry.{entriesBy}
 use Rattle.body.specs.Postfix.{postfix, Bodied}
 use Rattle.body.specs.Check.{scan}
 use Rattle.body.specs.Machine.{Machine, run, eval}
-use Rattle.body.proofs.Machines.{run-postfix}
+use Rattle.body.proofs.Entries.{entries-fit}
+use Rattle.body.proofs.Bodies.{length-by}
 use Rattle.body.proofs.Trees.{size-pos, length-postfix, proper-fits, fits-proper, scan-postfix, scan-tree}
 use Rattle.cell.specs.Cell.{cellWords, possible}
 use Rattle.cell.specs.Form.{cellFits}
 use Rattle.watcher.specs.State.{entryWords, cells, stateOf, InForm}
 use Rattle.watcher.specs.Walk.{entryIn, judgeCell, onAhead, judgeM, isSome, isNone, formed}
 use Rattle.watcher.specs.Claim.{FormedExactly}
+use Rattle.watcher.proofs.Entries.{Fitting, words-entries, read-fits, run-tree}
+use Rattle.watcher.proofs.States.{state-parts, count-word, next-word, entries-read, cells-from, state-long}
 use Rattle.watcher.proofs.Cells.{left, right, own, cells-ahead, form-left, form-right, length-own, possible-p}
 use Rattle.watcher.proofs.Fits.{both-true, Found, own-found, own-fits}
 
@@ -121,3 +125,111 @@ judge-complete τ (pair op x y) m rest f =
     judge-p τ y (some (cells y (right op x y m) ++ (own op x y m ++ rest))))
     (cell-complete τ op (p y) (own op x y m) rest (length-own op x y m) (own-fits τ op x y m f))
 judge-complete τ (within x n) m rest f = judge-complete τ x m rest f
+
+-- what the tests of the form say, one after the other
+pub record Judged (s : List ℕ) : Type 0 where
+  pub least : 1 ≤ getD s 0 0
+  pub most : getD s 0 0 ≤ mostEntries
+  pub long : 2 + getD s 0 0 ≤ length s
+  pub sound : scan (entriesBy (entryIn s) 0 (getD s 0 0)) 0 0 ≡ none
+  pub early : getD s 1 0 ≤ ticks
+  pub taken : isSome (run (judgeM (getD s 1 0)) (entriesBy (entryIn s) 0 (getD s 0 0)) [] (some (drop (2 + getD s 0 0) s)) .1) ≡ true
+
+none-of : (o : Option ℕ) → isNone o ≡ true → o ≡ none
+none-of none q = refl
+none-of (some i) q = let z : _≡_ {A = ℕ} 0 1 = cc in absurd (omega arith)
+
+pub formed-judged : (s : List ℕ) → formed s ≡ true → Judged s
+unfolding formed
+formed-judged s q =
+    let a = both-true (leb 1 (getD s 0 0)) _ q in
+    let b = both-true (leb (getD s 0 0) mostEntries) _ (a .1) in
+    let c = both-true (leb (2 + getD s 0 0) (length s)) _ (b .1) in
+    let d = both-true (isNone (scan (entriesBy (entryIn s) 0 (getD s 0 0)) 0 0)) _ (c .1) in
+    let e = both-true (leb (getD s 1 0) ticks) _ (d .1) in
+    record {
+      least = leb-true 1 (getD s 0 0) (a .0);
+      most = leb-true (getD s 0 0) mostEntries (b .0);
+      long = leb-true (2 + getD s 0 0) (length s) (c .0);
+      sound = none-of (scan (entriesBy (entryIn s) 0 (getD s 0 0)) 0 0) (d .0);
+      early = leb-true (getD s 1 0) ticks (e .0);
+      taken = e .1;
+    }
+
+judged-formed : (s : List ℕ) → Judged s → formed s ≡ true
+unfolding formed
+judged-formed s j =
+    rw (le-leb 1 (getD s 0 0) (j .least), le-leb (getD s 0 0) mostEntries (j .most), le-leb (2 + getD s 0 0) (length s) (j .long), j .sound,
+    le-leb (getD s 1 0) ticks (j .early)) (j .taken)
+
+-- a judge over the entries of a tree
+judge-run : (τ : ℕ) (es : List Entry) (e : Pattern) (ahead : Option (List ℕ)) → es ≡ postfix e
+    → run (judgeM τ) es [] ahead .1 ≡ eval (judgeM τ) e ahead .1
+judge-run τ es e ahead q =
+    ap (λ (l : List Entry). run (judgeM τ) l [] ahead .1) q
+    ∙ ap (λ (r : List ℕ × Option (List ℕ)). r .1) (run-tree (judgeM τ) e ahead)
+
+some-of : (o : Option (List ℕ)) → isSome o ≡ true → (l : List ℕ) × (o ≡ some l)
+some-of none q = let z : _≡_ {A = ℕ} 0 1 = cc in absurd (omega arith)
+some-of (some l) q = (l, refl)
+
+two-words : (s : List ℕ) → 2 ≤ length s → s ≡ getD s 0 0 ∷ getD s 1 0 ∷ drop 2 s
+two-words [] h = absurd (omega arith)
+two-words (a ∷ []) h = absurd (omega arith)
+two-words (a ∷ b ∷ l) h = refl
+
+join : (s : List ℕ) (n τ : ℕ) (es : List Entry) (ahead : List ℕ) (e : Pattern) (m : Memory e) (beyond : List ℕ)
+    → s ≡ n ∷ τ ∷ (entryWords es ++ ahead) → n ≡ size e → es ≡ postfix e → ahead ≡ cells e m ++ beyond → s ≡ stateOf e τ m ++ beyond
+join s n τ es ahead e m beyond q count tree same =
+    q ∙ rw (count, tree, same) (sym (state-parts e τ m beyond))
+
+pub judged-in-form : (s : List ℕ) → Judged s → InForm s
+judged-in-form s j =
+    let n : ℕ = getD s 0 0 in
+    let τ : ℕ = getD s 1 0 in
+    let bound : ℕ = 256 ^ argumentBytes in
+    let es : List Entry = entriesBy (entryIn s) 0 n in
+    let tree : (e : Pattern) × (es ≡ postfix e) = scan-tree es (j .sound) in
+    let e : Pattern = tree .0 in
+    let proper = fits-proper (Unit {0}) bound e (rw (tree .1) at (entries-fit (Unit {0}) bound (entryIn s) (read-fits s) 0 n)) in
+    let fitting : All Fitting es = rw (tree .1) (proper-fits bound e proper) in
+    let words : drop 2 s ≡ entryWords es ++ drop (2 + n) s = words-entries n s 0 (j .long) fitting in
+    let count : n ≡ size e = sym (length-by (entryIn s) 0 n) ∙ ap length (tree .1) ∙ length-postfix e in
+    let ahead : Option (List ℕ) = some (drop (2 + n) s) in
+    let end = some-of (run (judgeM τ) es [] ahead .1) (j .taken) in
+    let found = judge-sound τ e (drop (2 + n) s) (end .0) (sym (judge-run τ es e ahead (tree .1)) ∙ end .1) in
+    record {
+      pattern = e;
+      next = τ;
+      memory = found .memory;
+      beyond = end .0;
+      bodied = record { proper = proper; few = omega (arith, j .most) };
+      early = j .early;
+      form = found .form;
+      same =
+          join s n τ es (drop (2 + n) s) e (found .memory) (end .0)
+          (two-words s (omega (arith, j .long)) ∙ ap (λ (l : List ℕ). n ∷ τ ∷ l) words) count (tree .1) (found .same);
+    }
+
+scan-whole : (e : Pattern) → scan (postfix e) 0 0 ≡ none
+unfolding scan
+scan-whole e = rw (append-nil (postfix e)) at (scan-postfix e [] 0 0)
+
+in-form-judged : (s : List ℕ) → InForm s → Judged s
+in-form-judged s f =
+    let e : Pattern = f .pattern in
+    let count = count-word f in
+    let taken : run (judgeM (f .next)) (postfix e) [] (some (cells e (f .memory) ++ f .beyond)) .1 ≡ some (f .beyond) =
+    judge-run (f .next) (postfix e) e (some (cells e (f .memory) ++ f .beyond)) refl ∙ judge-complete (f .next) e (f .memory) (f .beyond) (f .form) in
+    record {
+      least = omega (arith, size-pos e);
+      most = omega (arith, f .bodied .few);
+      long = state-long f;
+      sound = rw (entries-read f) (scan-whole e);
+      early = omega (arith, next-word f, f .early);
+      taken = rw (entries-read f, cells-from f, next-word f, taken);
+    }
+
+-- the form judged is the form stated
+pub formed-exactly : FormedExactly
+formed-exactly s = ((λ q. judged-in-form s (formed-judged s q)), (λ f. judged-formed s (in-form-judged s f)))

@@ -1,4 +1,5 @@
 pub mod Entries
 pub mod Cells
 pub mod Fits
+pub mod States
 pub mod Judges

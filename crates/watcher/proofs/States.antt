@@ -1,0 +1,59 @@
+-- What stands where in a state in form: the number of entries, the next tick, the entries, the cells, and the words beyond.
+-- Assumes nothing.
+use Prim.Native.Nat.{ℕ, _+_, _≤_}
+use mathlib.Core.Path.{_≡_, refl, sym, ap, _∙_}
+use mathlib.Core.List.{List, [], _∷_, _++_, append-assoc}
+use native.Mathlib.Omega.{arith}
+use lib.ListN.{length, getD, take, drop, length-append}
+use lib.Seq.{take-at, drop-at, take-add, drop-drop}
+use Rattle.rules.specs.Pattern.{Pattern, size}
+use Rattle.detector.specs.Memory.{Memory}
+use Rattle.body.specs.declared.Entry.{Entry}
+use Rattle.body.specs.Entry.{entriesBy}
+use Rattle.body.specs.Postfix.{postfix}
+use Rattle.body.proofs.Trees.{length-postfix}
+use Rattle.watcher.specs.State.{entryWords, cells, stateOf, InForm}
+use Rattle.watcher.specs.Walk.{entryIn}
+use Rattle.watcher.proofs.Entries.{entries-in, length-words}
+
+-- the words of a state, each part after the one before
+pub state-parts : (e : Pattern) (next : ℕ) (m : Memory e) (beyond : List ℕ)
+    → stateOf e next m ++ beyond ≡ size e ∷ next ∷ (entryWords (postfix e) ++ (cells e m ++ beyond))
+state-parts e next m beyond = ap (λ (l : List ℕ). size e ∷ next ∷ l) (append-assoc (entryWords (postfix e)) (cells e m) beyond)
+
+length-entry-words : (e : Pattern) → length (entryWords (postfix e)) ≡ size e
+length-entry-words e = length-words (postfix e) ∙ length-postfix e
+
+module _ {s : List ℕ} (f : InForm s) where
+  parts : s ≡ size (f .pattern) ∷ f .next ∷ (entryWords (postfix (f .pattern)) ++ (cells (f .pattern) (f .memory) ++ f .beyond))
+  parts = f .same ∙ state-parts (f .pattern) (f .next) (f .memory) (f .beyond)
+
+  pub count-word : getD s 0 0 ≡ size (f .pattern)
+  count-word = ap (λ (l : List ℕ). getD l 0 0) parts
+
+  pub next-word : getD s 1 0 ≡ f .next
+  next-word = ap (λ (l : List ℕ). getD l 1 0) parts
+
+  after-two : drop 2 s ≡ entryWords (postfix (f .pattern)) ++ (cells (f .pattern) (f .memory) ++ f .beyond)
+  after-two = ap (drop 2) parts
+
+  pub entries-read : entriesBy (entryIn s) 0 (getD s 0 0) ≡ postfix (f .pattern)
+  entries-read = rw count-word (entries-in (f .pattern) (f .bodied .proper) s (cells (f .pattern) (f .memory) ++ f .beyond) after-two)
+
+  pub cells-from : drop (2 + getD s 0 0) s ≡ cells (f .pattern) (f .memory) ++ f .beyond
+  cells-from =
+      sym (drop-drop (getD s 0 0) 2 s)
+      ∙ rw (after-two, count-word)
+      (drop-at (entryWords (postfix (f .pattern))) (cells (f .pattern) (f .memory) ++ f .beyond) (size (f .pattern)) (length-entry-words (f .pattern)))
+
+  pub front-words : take (2 + getD s 0 0) s ≡ size (f .pattern) ∷ f .next ∷ entryWords (postfix (f .pattern))
+  front-words =
+      take-add 2 (getD s 0 0) s
+      ∙ rw (after-two, count-word, parts)
+      (ap (λ (l : List ℕ). size (f .pattern) ∷ f .next ∷ l)
+      (take-at (entryWords (postfix (f .pattern))) (cells (f .pattern) (f .memory) ++ f .beyond) (size (f .pattern)) (length-entry-words (f .pattern))))
+
+  pub state-long : 2 + getD s 0 0 ≤ length s
+  state-long =
+      omega (arith, count-word, ap length parts, length-entry-words (f .pattern),
+      length-append (entryWords (postfix (f .pattern))) (cells (f .pattern) (f .memory) ++ f .beyond))
