@@ -12,7 +12,8 @@ use Rattle.detector.specs.Possible.{p}
 use Rattle.detector.specs.Form.{Form}
 use Rattle.cell.specs.Words.{spanWords, keptWords}
 use Rattle.cell.specs.Cell.{cellWords, possible}
-use Rattle.watcher.specs.State.{cells, cellRoom}
+use Rattle.cell.proofs.Words.{length-kept-words}
+use Rattle.watcher.specs.State.{cells}
 
 -- the operands' memories
 abbrev pub left : (op : Op) (x y : Pattern) → Memory (pair op x y) → Memory x
@@ -59,18 +60,12 @@ form-right τ Both x y m f = f .1
 form-right τ Without x y m f = f .1
 form-right τ Chain x y m f = f .1
 
-pub length-kept : (n : ℕ) (l : List Span) → length (keptWords n l) ≡ 2 * n
-unfolding keptWords
-length-kept zero l = refl
-length-kept (suc n) [] = omega (arith, length-kept n [])
-length-kept (suc n) (q ∷ l) = omega (arith, length-kept n l)
-
 pub length-own : (op : Op) (x y : Pattern) (m : Memory (pair op x y)) → length (own op x y m) ≡ cellWords op (p y)
 unfolding cellWords
 length-own Either x y m = refl
 length-own Both x y m = refl
 length-own Without x y m = refl
-length-own Chain x y m = omega (arith, length-kept (p y) (m .3))
+length-own Chain x y m = omega (arith, length-kept-words (p y) (m .3))
 
 pub possible-p : (op : Op) (x y : Pattern) → possible op (p x) (p y) ≡ p (pair op x y)
 unfolding possible p

@@ -3,3 +3,5 @@ pub mod Cells
 pub mod Fits
 pub mod States
 pub mod Judges
+pub mod Starts
+pub mod Ticks
