@@ -5,3 +5,4 @@ pub mod States
 pub mod Judges
 pub mod Starts
 pub mod Ticks
+pub mod Runs
