@@ -6,3 +6,4 @@ pub mod Judges
 pub mod Starts
 pub mod Ticks
 pub mod Runs
+pub mod Calls

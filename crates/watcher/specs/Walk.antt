@@ -7,7 +7,7 @@ use mathlib.Core.Option.{Option, none, some}
 use Prim.Native.Nat.{ℕ, suc, _+_, _/_, _%_}
 use native.Mathlib.Decide.{decLe, ℕ-discrete}
 use lib.Dec.{leb, eqb}
-use lib.ListN.{length, getD, take, drop}
+use lib.ListN.{length, getD, take, drop, set}
 use Rattle.rules.specs.declared.Op.{Op}
 use Rattle.rules.specs.Bits.{bit}
 use Rattle.rules.specs.Decisions.{pick}
@@ -93,3 +93,15 @@ tickM t w =
 -- all the entries of a state: the stack, and the cells written and ahead
 unfoldable pub ticked : ℕ → ℕ → List ℕ → List Value × Cells
 ticked t w s = run (tickM t w) (entriesBy (entryIn s) 0 (getD s 0 0)) [] ([], drop (2 + getD s 0 0) s)
+
+-- the answer of the last entry
+abbrev pub lastAnswer : List Value → ℕ
+lastAnswer [] = 0
+lastAnswer (v ∷ st) = v .0
+
+unfoldable pub answerOf : ℕ → ℕ → List ℕ → ℕ
+answerOf t w s = lastAnswer (ticked t w s .0)
+
+-- the words after the tick: the cells as they become, and the next tick allowed
+unfoldable pub wordsAfter : ℕ → ℕ → List ℕ → List ℕ
+wordsAfter t w s = set (take (2 + getD s 0 0) s ++ (ticked t w s .1 .0 ++ ticked t w s .1 .1)) 1 (t + 1)

@@ -1,0 +1,66 @@
+-- A tick's promise, from what the code computes: the form judged, the next tick allowed, and the walk over the entries.
+-- Two states in form with the same words give the same answer and the same words, as the walk goes by the words alone. Assumes nothing.
+use Prim.Native.Nat.{ℕ, suc, _+_, _≤_, _<_}
+use mathlib.Core.Path.{_≡_, refl, sym, ap, _∙_}
+use mathlib.Core.Bool.{true, false}
+use mathlib.Core.List.{List, [], _∷_, _++_}
+use native.Mathlib.Numerals.{add-one}
+use native.Mathlib.Omega.{arith}
+use lib.ListN.{getD}
+use Rattle.rules.specs.Limits.{ticks}
+use Rattle.rules.specs.Pattern.{Pattern}
+use Rattle.detector.specs.Memory.{Memory}
+use Rattle.detector.specs.Step.{answer, next}
+use Rattle.body.specs.declared.Entry.{Entry}
+use Rattle.body.specs.Machine.{run}
+use Rattle.refusal.specs.declared.Refusal.the-variants.{State, Range, Late}
+use Rattle.watcher.specs.State.{cells, stateOf, InForm}
+use Rattle.watcher.specs.Answer.{IsTicked, TickRefused, over, broken, below}
+use Rattle.watcher.specs.Walk.{Value, Cells, tickM, formed, ticked, lastAnswer, answerOf, wordsAfter}
+use Rattle.watcher.proofs.Entries.{run-tree}
+use Rattle.watcher.proofs.States.{state-parts, next-word, entries-read, cells-from, front-words}
+use Rattle.watcher.proofs.Judges.{formed-exactly}
+use Rattle.watcher.proofs.Ticks.{valueOf, tick-tree}
+
+-- the walk over a state in form
+module _ {s : List ℕ} (f : InForm s) (t w : ℕ) (k : f .next ≤ t) where
+  pub ticked-in-form : ticked t w s
+      ≡ (valueOf (f .pattern) (f .memory) t w ∷ [], (cells (f .pattern) (next (f .pattern) (f .memory) t w), f .beyond))
+  unfolding ticked
+  ticked-in-form =
+      rw (entries-read f, cells-from f)
+      (run-tree (tickM t w) (f .pattern) ([], cells (f .pattern) (f .memory) ++ f .beyond)
+      ∙ ap (λ (r : Value × Cells). (r .0 ∷ [], r .1)) (tick-tree (f .next) (f .pattern) (f .memory) t w k (f .form) [] (f .beyond)))
+
+  pub answer-in-form : answerOf t w s ≡ answer (f .pattern) (f .memory) t w
+  unfolding answerOf
+  answer-in-form = ap (λ (r : List Value × Cells). lastAnswer (r .0)) ticked-in-form
+
+  pub words-in-form : wordsAfter t w s ≡ stateOf (f .pattern) (suc t) (next (f .pattern) (f .memory) t w) ++ f .beyond
+  unfolding wordsAfter
+  words-in-form =
+      rw (ticked-in-form, front-words f, add-one t) (sym (state-parts (f .pattern) (suc t) (next (f .pattern) (f .memory) t w) (f .beyond)))
+
+-- an accepted tick has the walk's answer, and leaves the walk's words
+pub ticked-as-walked : {s s′ : List ℕ} {t w a : ℕ} → IsTicked s s′ t w a → (a ≡ answerOf t w s) × (s′ ≡ wordsAfter t w s)
+ticked-as-walked {s} {s′} {t} {w} {a} i =
+    (i .answered ∙ sym (answer-in-form (i .form) t w (i .late)), i .words ∙ sym (words-in-form (i .form) t w (i .late)))
+
+-- what the code tests and computes is what is promised
+pub walked-as-ticked : (s : List ℕ) (t w : ℕ) → t < ticks → formed s ≡ true → getD s 1 0 ≤ t → IsTicked s (wordsAfter t w s) t w (answerOf t w s)
+walked-as-ticked s t w r q l =
+    let f : InForm s = formed-exactly s .0 q in
+    let k : f .next ≤ t = omega (arith, next-word f) in
+    record { range = r; form = f; late = k; answered = answer-in-form f t w k; words = words-in-form f t w k }
+
+pub refused-form : (s : List ℕ) (t : ℕ) → t < ticks → formed s ≡ false → TickRefused s t (State 0)
+refused-form s t r q =
+    broken r (λ f. let e : formed s ≡ true = formed-exactly s .1 f in let z : _≡_ {A = ℕ} 0 1 = cc in omega arith) refl
+
+pub refused-late : (s : List ℕ) (t : ℕ) → t < ticks → formed s ≡ true → t < getD s 1 0 → TickRefused s t (Late 0)
+refused-late s t r q l =
+    let f : InForm s = formed-exactly s .0 q in
+    below r f (omega (arith, next-word f)) refl
+
+pub refused-range : (s : List ℕ) (t : ℕ) → ticks ≤ t → TickRefused s t Range
+refused-range s t r = over r refl
