@@ -7,3 +7,5 @@ pub mod Starts
 pub mod Ticks
 pub mod Runs
 pub mod Calls
+pub mod Agrees
+pub mod Theorem

@@ -10,11 +10,13 @@ use Rattle.rules.specs.Pattern.{Pattern}
 use Rattle.rules.specs.Instances.{Has, Latest}
 use Rattle.rules.specs.History.{Tick, Rising, nextTick, recordOf}
 use Rattle.body.specs.Claim.{BodyOf}
+use Rattle.watcher.specs.declared.Needed.{Needed}
+use Rattle.watcher.specs.declared.Opening.{Opening}
 use Rattle.watcher.specs.declared.Opening.the-variants as Opens
 use Rattle.watcher.specs.declared.Ticking.{Ticking}
 use Rattle.watcher.specs.declared.Ticking.the-variants as Ticks
 use Rattle.watcher.specs.State.{InForm}
-use Rattle.watcher.specs.Answer.{OpenAnswers, TickAnswers}
+use Rattle.watcher.specs.Answer.{RoomAnswers, OpenAnswers, TickAnswers}
 use Rattle.watcher.specs.Walk.{formed}
 
 -- a slice that was opened with a body and then only ticked: the ticks accepted so far, in order, and its words now
@@ -48,3 +50,12 @@ FormedExactly = (s : List ℕ) → (formed s ≡ true) ↔ InForm s
 -- no second answer and no second slice meet the promise of a tick
 abbrev pub OneTick : Type 0
 OneTick = (s s′ s″ : List ℕ) (t w : ℕ) (r r′ : Ticking) → TickAnswers s s′ t w r → TickAnswers s s″ t w r′ → (r ≡ r′) × (s′ ≡ s″)
+
+-- no second answer and no second slice meet the promise of opening
+abbrev pub OneOpening : Type 0
+OneOpening =
+    (b old new new′ : List ℕ) (r r′ : Opening) → OpenAnswers b old new r → OpenAnswers b old new′ r′ → (r ≡ r′) × (new ≡ new′)
+
+-- and no second answer that of the room
+abbrev pub OneRoom : Type 0
+OneRoom = (b : List ℕ) (r r′ : Needed) → RoomAnswers b r → RoomAnswers b r′ → r ≡ r′
