@@ -9,8 +9,7 @@ use Rattle.rules.specs.Limits.{argumentBytes, ticks}
 use Rattle.rules.specs.Pattern.{Pattern}
 use Rattle.rules.specs.Instances.{Has, Latest}
 use Rattle.rules.specs.History.{Tick, Rising, nextTick, recordOf}
-use Rattle.detector.specs.Memory.{Memory}
-use Rattle.detector.specs.Step.{answer, next}
+use Rattle.detector.specs.Step.{next}
 use Rattle.detector.specs.Run.{run-from, run}
 use Rattle.detector.proofs.Run.{run-form, run-snoc}
 use Rattle.detector.proofs.History.{nextTick-snoc, rising-snoc}

@@ -8,11 +8,7 @@ use native.Mathlib.Numerals.{add-one}
 use native.Mathlib.Omega.{arith}
 use lib.ListN.{getD}
 use Rattle.rules.specs.Limits.{ticks}
-use Rattle.rules.specs.Pattern.{Pattern}
-use Rattle.detector.specs.Memory.{Memory}
 use Rattle.detector.specs.Step.{answer, next}
-use Rattle.body.specs.declared.Entry.{Entry}
-use Rattle.body.specs.Machine.{run}
 use Rattle.refusal.specs.declared.Refusal.the-variants.{State, Range, Late}
 use Rattle.watcher.specs.State.{cells, stateOf, InForm}
 use Rattle.watcher.specs.Answer.{IsTicked, TickRefused, over, broken, below}

@@ -1,13 +1,13 @@
 -- The cells of an operator's tree are its operands' and then its own, which has as many words as its entry says. Assumes nothing.
-use Prim.Native.Nat.{ℕ, zero, suc, _+_, _*_, _≤_}
-use mathlib.Core.Path.{_≡_, refl, sym, ap, _∙_}
+use Prim.Native.Nat.{ℕ, _+_}
+use mathlib.Core.Path.{_≡_, refl}
 use mathlib.Core.List.{List, [], _∷_, _++_, append-assoc, append-nil}
 use native.Mathlib.Omega.{arith}
-use lib.ListN.{length, length-append}
+use lib.ListN.{length}
 use Rattle.rules.specs.declared.Op.{Op}
 use Rattle.rules.specs.declared.Op.the-variants.{Either, Both, Without, Chain}
-use Rattle.rules.specs.Pattern.{Pattern, event, pair, within}
-use Rattle.detector.specs.Memory.{Span, Memory}
+use Rattle.rules.specs.Pattern.{Pattern, pair}
+use Rattle.detector.specs.Memory.{Memory}
 use Rattle.detector.specs.Possible.{p}
 use Rattle.detector.specs.Form.{Form}
 use Rattle.cell.specs.Words.{spanWords, keptWords}

@@ -1,29 +1,25 @@
 -- The words of a cell fit exactly if they are those of a memory in form. Assumes nothing.
-use Prim.Native.Nat.{ℕ, zero, suc, _+_, _*_, _≤_, _<_, _^_}
-use mathlib.Core.Path.{_≡_, refl, sym, ap, subst, _∙_}
+use Prim.Native.Nat.{ℕ, zero, suc, _+_, _*_, _≤_}
+use mathlib.Core.Path.{_≡_, refl, sym, ap, _∙_}
 use mathlib.Core.Bool.{Bool, true, false, cond}
-use mathlib.Core.List.{List, [], _∷_, _++_, append-assoc, append-nil}
-use mathlib.Core.Option.{Option, none, some}
+use mathlib.Core.List.{List, [], _∷_, _++_}
 use native.Mathlib.Decide.{ℕ-discrete}
 use native.Mathlib.Omega.{arith}
 use lib.Dec.{ltb, leb, eqb}
-use lib.ListN.{length, take, drop, take-append-drop}
-use lib.Seq.{take-at, drop-at, length-take-le}
+use lib.ListN.{length}
 use borrow.Author.Tests.{lt-ltb, le-leb, eq-eqb, ne-eqb, ltb-true, leb-true, eqb-true, eqb-false}
 use Rattle.rules.specs.declared.Op.{Op}
 use Rattle.rules.specs.declared.Op.the-variants.{Either, Both, Without, Chain}
 use Rattle.rules.specs.Lists.{All}
-use Rattle.rules.specs.Pattern.{Pattern, event, pair, within}
+use Rattle.rules.specs.Pattern.{Pattern, pair}
 use Rattle.detector.specs.Memory.{Span, Memory}
 use Rattle.detector.specs.Possible.{p}
 use Rattle.detector.specs.Form.{Fits, Sorted, Form}
-use Rattle.body.specs.Machine.{eval}
-use Rattle.cell.specs.Words.{spanWords, keptWords}
-use Rattle.cell.specs.Cell.{cellWords, possible}
+use Rattle.cell.specs.Words.{keptWords}
+use Rattle.cell.specs.Cell.{cellWords}
 use Rattle.cell.specs.Form.{pairFits, allZero, keptFits, cellFits}
 use Rattle.watcher.specs.State.{cells}
-use Rattle.watcher.specs.Walk.{judgeCell, onAhead, judgeM}
-use Rattle.watcher.proofs.Cells.{left, right, own, cells-ahead, form-left, form-right, length-own, possible-p}
+use Rattle.watcher.proofs.Cells.{own, cells-ahead}
 
 -- tests one after the other
 not-true : {A : Type 0} → false ≡ true → A

@@ -1,9 +1,9 @@
 -- The form judged is the form stated: on a tree the judge takes exactly the words of a memory in form, and the entries are a tree's.
 -- Assumes nothing.
-use Prim.Native.Nat.{ℕ, _+_, _*_, _≤_, _^_}
+use Prim.Native.Nat.{ℕ, _+_, _≤_, _^_}
 use mathlib.Core.Path.{_≡_, refl, sym, ap, ap₂, subst, _∙_}
 use mathlib.Core.Bool.{Bool, true, false, cond}
-use mathlib.Core.List.{List, [], _∷_, _++_, append-assoc, append-nil}
+use mathlib.Core.List.{List, [], _∷_, _++_, append-nil}
 use mathlib.Core.Option.{Option, none, some}
 use native.Mathlib.Omega.{arith}
 use lib.Dec.{leb}
@@ -19,9 +19,9 @@ use Rattle.detector.specs.Possible.{p}
 use Rattle.detector.specs.Form.{Form}
 use Rattle.body.specs.declared.Entry.{Entry}
 use Rattle.body.specs.Entry.{entriesBy}
-use Rattle.body.specs.Postfix.{postfix, Bodied}
+use Rattle.body.specs.Postfix.{postfix}
 use Rattle.body.specs.Check.{scan}
-use Rattle.body.specs.Machine.{Machine, run, eval}
+use Rattle.body.specs.Machine.{run, eval}
 use Rattle.body.proofs.Entries.{entries-fit}
 use Rattle.body.proofs.Bodies.{length-by}
 use Rattle.body.proofs.Trees.{size-pos, length-postfix, proper-fits, fits-proper, scan-postfix, scan-tree}

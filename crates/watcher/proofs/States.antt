@@ -1,14 +1,13 @@
 -- What stands where in a state in form: the number of entries, the next tick, the entries, the cells, and the words beyond.
 -- Assumes nothing.
 use Prim.Native.Nat.{ℕ, _+_, _≤_}
-use mathlib.Core.Path.{_≡_, refl, sym, ap, _∙_}
-use mathlib.Core.List.{List, [], _∷_, _++_, append-assoc}
+use mathlib.Core.Path.{_≡_, sym, ap, _∙_}
+use mathlib.Core.List.{List, _∷_, _++_, append-assoc}
 use native.Mathlib.Omega.{arith}
 use lib.ListN.{length, getD, take, drop, length-append}
 use lib.Seq.{take-at, drop-at, take-add, drop-drop}
 use Rattle.rules.specs.Pattern.{Pattern, size}
 use Rattle.detector.specs.Memory.{Memory}
-use Rattle.body.specs.declared.Entry.{Entry}
 use Rattle.body.specs.Entry.{entriesBy}
 use Rattle.body.specs.Postfix.{postfix}
 use Rattle.body.proofs.Trees.{length-postfix}

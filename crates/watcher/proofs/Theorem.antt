@@ -1,9 +1,9 @@
 -- Each claim of specs/Claim, proved. Assumes nothing.
-use Prim.Native.Nat.{ℕ, _≤_, _<_}
+use Prim.Native.Nat.{ℕ}
 use mathlib.Core.Path.{_≡_, refl, sym, ap, _∙_}
-use mathlib.Core.List.{List, [], _++_}
+use mathlib.Core.List.{List, _++_}
 use native.Mathlib.Omega.{arith}
-use lib.ListN.{length, drop}
+use lib.ListN.{drop}
 use Rattle.rules.specs.Limits.{argumentBytes}
 use Rattle.rules.specs.Pattern.{Pattern}
 use Rattle.rules.specs.History.{Tick}
@@ -11,12 +11,12 @@ use Rattle.detector.specs.Memory.{fresh}
 use Rattle.body.specs.declared.BodyCheck.the-variants as Checked
 use Rattle.body.specs.Check.{checkOf}
 use Rattle.body.specs.Claim.{BodyOf}
-use Rattle.body.proofs.Bodies.{one-pattern, accepted-exactly, encode-sound}
+use Rattle.body.proofs.Bodies.{one-pattern, encode-sound}
 use Rattle.refusal.specs.declared.Refusal.{Refusal}
 use Rattle.watcher.specs.declared.Needed.the-variants as Needs
 use Rattle.watcher.specs.declared.Opening.the-variants as Opens
 use Rattle.watcher.specs.declared.Ticking.the-variants as Ticks
-use Rattle.watcher.specs.State.{stateOf, roomOf, InForm}
+use Rattle.watcher.specs.State.{stateOf, roomOf}
 use Rattle.watcher.specs.Answer.{IsOpened, IsTicked, TickRefused, over, broken, below, OpenRefused, unsound, short}
 use Rattle.watcher.specs.Claim.{Agrees, StaysInForm, FormedExactly, OneTick, OneOpening, OneRoom, Watched, opened, window, nothing}
 use Rattle.watcher.proofs.Judges as Judges

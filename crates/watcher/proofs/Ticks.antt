@@ -1,10 +1,9 @@
 -- A tick over a state's words is the detector's: on a tree the machine gives its answer and writes the cells of the memory after it.
 -- Assumes nothing.
 use Prim.Native.Nat.{ℕ, suc, _+_, _≤_}
-use mathlib.Core.Path.{_≡_, refl, sym, ap, ap₂, _∙_}
-use mathlib.Core.List.{List, [], _∷_, _++_, append-assoc, append-nil}
-use native.Mathlib.Omega.{arith}
-use lib.ListN.{length, getD, take, drop}
+use mathlib.Core.Path.{_≡_, refl, ap}
+use mathlib.Core.List.{List, _∷_, _++_, append-assoc, append-nil}
+use lib.ListN.{length}
 use lib.Seq.{take-at, drop-at}
 use Rattle.rules.specs.declared.Op.{Op}
 use Rattle.rules.specs.declared.Op.the-variants.{Either, Both, Without, Chain}
@@ -16,11 +15,10 @@ use Rattle.detector.specs.Step.{answer, next}
 use Rattle.detector.specs.Form.{Form}
 use Rattle.detector.proofs.Form.{in-form}
 use Rattle.body.specs.Machine.{eval}
-use Rattle.cell.specs.Words.{keptWords}
-use Rattle.cell.specs.Cell.{cellWords, cellAnswer, cellAfter, startsAfter}
+use Rattle.cell.specs.Cell.{cellWords, cellAnswer, cellAfter}
 use Rattle.cell.proofs.Words.{kept-words}
 use Rattle.watcher.specs.State.{cells}
-use Rattle.watcher.specs.Walk.{Value, Cells, tickPair, tickM}
+use Rattle.watcher.specs.Walk.{Value, tickPair, tickM}
 use Rattle.watcher.proofs.Cells.{left, right, own, cells-pair, cells-ahead, form-left, form-right, length-own}
 use Rattle.watcher.proofs.Starts.{padded, length-padded, gather-padded}
 

@@ -4,11 +4,10 @@ use mathlib.Core.Logic.{_↔_}
 use mathlib.Core.Bool.{true}
 use mathlib.Core.List.{List, [], _∷_, _++_}
 use Prim.Native.Nat.{ℕ, suc, _≤_, _<_}
-use lib.ListN.{length}
 use Rattle.rules.specs.Limits.{argumentBytes, ticks}
 use Rattle.rules.specs.Pattern.{Pattern}
 use Rattle.rules.specs.Instances.{Has, Latest}
-use Rattle.rules.specs.History.{Tick, Rising, nextTick, recordOf}
+use Rattle.rules.specs.History.{Tick, nextTick, recordOf}
 use Rattle.body.specs.Claim.{BodyOf}
 use Rattle.watcher.specs.declared.Needed.{Needed}
 use Rattle.watcher.specs.declared.Opening.{Opening}

@@ -1,12 +1,11 @@
 -- The walks over a state's entries, as machines: its form judged, and a tick. Inner contracts cite these, no public call does.
 -- Assumes nothing: these are definitions.
-use mathlib.Core.Path.{_≡_}
 use mathlib.Core.Bool.{Bool, true, false, cond}
 use mathlib.Core.List.{List, [], _∷_, _++_}
 use mathlib.Core.Option.{Option, none, some}
 use Prim.Native.Nat.{ℕ, suc, _+_, _/_, _%_}
 use native.Mathlib.Decide.{decLe, ℕ-discrete}
-use lib.Dec.{leb, eqb}
+use lib.Dec.{leb}
 use lib.ListN.{length, getD, take, drop, set}
 use Rattle.rules.specs.declared.Op.{Op}
 use Rattle.rules.specs.Bits.{bit}
