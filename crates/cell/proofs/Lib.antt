@@ -1,1 +1,5 @@
 pub mod Words
+pub mod Sizes
+pub mod Pairs
+pub mod Fits
+pub mod Starts

@@ -1,3 +1,4 @@
 pub mod Words
 pub mod Cell
 pub mod Form
+pub mod Calls
