@@ -6,6 +6,7 @@ pub mod Judges
 pub mod Starts
 pub mod Ticks
 pub mod Runs
+pub mod Places
 pub mod Calls
 pub mod Agrees
 pub mod Theorem
