@@ -5,6 +5,7 @@ use mathlib.Core.Path.{_≡_, refl, sym, ap, ap₂, subst, _∙_}
 use mathlib.Core.Bool.{Bool, true, false, cond}
 use mathlib.Core.List.{List, [], _∷_, _++_, append-nil}
 use mathlib.Core.Option.{Option, none, some}
+use native.Mathlib.Nat.{sub-zero}
 use native.Mathlib.Omega.{arith}
 use lib.Dec.{leb}
 use lib.ListN.{length, getD, take, drop, length-append, take-append-drop}
@@ -18,11 +19,13 @@ use Rattle.detector.specs.Memory.{Memory}
 use Rattle.detector.specs.Possible.{p}
 use Rattle.detector.specs.Form.{Form}
 use Rattle.body.specs.declared.Entry.{Entry}
+use Rattle.body.specs.declared.Entry.the-variants.{Letter, Pair, Within, Wrong}
 use Rattle.body.specs.Entry.{entriesBy}
 use Rattle.body.specs.Postfix.{postfix}
 use Rattle.body.specs.Check.{scan}
-use Rattle.body.specs.Machine.{run, eval}
+use Rattle.body.specs.Machine.{step, run, eval}
 use Rattle.body.proofs.Entries.{entries-fit}
+use Rattle.body.proofs.Walk.{Rest}
 use Rattle.body.proofs.Bodies.{length-by}
 use Rattle.body.proofs.Trees.{size-pos, length-postfix, proper-fits, fits-proper, scan-postfix, scan-tree}
 use Rattle.cell.specs.Cell.{cellWords, possible}
@@ -84,6 +87,23 @@ judge-none τ (event n) = refl
 judge-none τ (pair op x y) = rw (judge-none τ x, judge-none τ y)
 judge-none τ (within x n) = judge-none τ x
 
+step-none : (τ : ℕ) (s : Entry) (st : List ℕ) → step (judgeM τ) s st none .1 ≡ none
+unfolding step
+step-none τ (Letter n) st = refl
+step-none τ (Pair op) [] = refl
+step-none τ (Pair op) (y ∷ []) = refl
+step-none τ (Pair op) (y ∷ x ∷ st) = refl
+step-none τ (Within n) [] = refl
+step-none τ (Within n) (x ∷ st) = refl
+step-none τ Wrong st = refl
+
+pub run-none : (τ : ℕ) (ss : List Entry) (st : List ℕ) → run (judgeM τ) ss st none .1 ≡ none
+unfolding run
+run-none τ [] st = refl
+run-none τ (s ∷ ss) st =
+    ap (λ (g : Option (List ℕ)). run (judgeM τ) ss (step (judgeM τ) s st none .0) g .1) (step-none τ s st)
+    ∙ run-none τ ss (step (judgeM τ) s st none .0)
+
 not-some : {A : Type 0} (l : List ℕ) → none ≡ some l → A
 not-some l q = let z : _≡_ {A = ℕ} 0 1 = cc in absurd (omega arith)
 
@@ -120,9 +140,12 @@ judge-complete : (τ : ℕ) (e : Pattern) (m : Memory e) (rest : List ℕ) → F
 unfolding eval cells
 judge-complete τ (event n) m rest f = refl
 judge-complete τ (pair op x y) m rest f =
-    rw (cells-ahead op x y m rest, judge-complete τ x (left op x y m) (cells y (right op x y m) ++ (own op x y m ++ rest)) (form-left τ op x y m f),
-    judge-complete τ y (right op x y m) (own op x y m ++ rest) (form-right τ op x y m f),
-    judge-p τ y (some (cells y (right op x y m) ++ (own op x y m ++ rest))))
+    rw (
+      cells-ahead op x y m rest,
+      judge-complete τ x (left op x y m) (cells y (right op x y m) ++ (own op x y m ++ rest)) (form-left τ op x y m f),
+      judge-complete τ y (right op x y m) (own op x y m ++ rest) (form-right τ op x y m f),
+      judge-p τ y (some (cells y (right op x y m) ++ (own op x y m ++ rest))),
+    )
     (cell-complete τ op (p y) (own op x y m) rest (length-own op x y m) (own-fits τ op x y m f))
 judge-complete τ (within x n) m rest f = judge-complete τ x m rest f
 
@@ -159,8 +182,17 @@ formed-judged s q =
 judged-formed : (s : List ℕ) → Judged s → formed s ≡ true
 unfolding formed
 judged-formed s j =
-    rw (le-leb 1 (getD s 0 0) (j .least), le-leb (getD s 0 0) mostEntries (j .most), le-leb (2 + getD s 0 0) (length s) (j .long), j .sound,
-    le-leb (getD s 1 0) ticks (j .early)) (j .taken)
+    rw (
+      le-leb 1 (getD s 0 0) (j .least),
+      le-leb (getD s 0 0) mostEntries (j .most),
+      le-leb (2 + getD s 0 0) (length s) (j .long),
+      j .sound,
+      le-leb (getD s 1 0) ticks (j .early),
+    ) (j .taken)
+
+-- the entries break no rule, as a walk by the index has it
+pub judged-rest : (s : List ℕ) → Judged s → Rest (entryIn s) (getD s 0 0) 0 0
+judged-rest s j = simp sub-zero (j .sound)
 
 -- a judge over the entries of a tree
 judge-run : (τ : ℕ) (es : List Entry) (e : Pattern) (ahead : Option (List ℕ)) → es ≡ postfix e

@@ -8,5 +8,6 @@ pub mod Ticks
 pub mod Runs
 pub mod Places
 pub mod Calls
+pub mod Opens
 pub mod Agrees
 pub mod Theorem

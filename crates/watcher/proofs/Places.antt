@@ -1,13 +1,11 @@
 -- Where a walk writes: the words of the entries stay as they were, then come the cells written, then those ahead. Assumes nothing.
 use Prim.Native.Nat.{ℕ, _+_, _≤_, _<_}
-use mathlib.Core.Path.{_≡_, refl, sym, ap, ap₂, _∙_}
+use mathlib.Core.Path.{_≡_, sym, ap, _∙_}
 use mathlib.Core.List.{List, [], _++_, append-assoc}
 use native.Mathlib.Omega.{arith}
 use lib.ListN.{length, getD, take, drop, set, length-append, take-append-drop}
 use lib.Seq.{take-at, drop-at, getD-take, length-take-le}
 use borrow.Rule.Slice.PartMut.{putMid}
-use Rattle.rules.specs.Limits.{argumentBytes}
-use Rattle.body.specs.Entry.{entryOf}
 use Rattle.watcher.specs.Walk.{Cells, entryIn, ticked, wordsAfter}
 
 -- s is the old words up to the cells, then those written, up to a place, and then those ahead

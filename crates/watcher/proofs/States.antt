@@ -43,16 +43,23 @@ module _ {s : List ℕ} (f : InForm s) where
   cells-from =
       sym (drop-drop (getD s 0 0) 2 s)
       ∙ rw (after-two, count-word)
-      (drop-at (entryWords (postfix (f .pattern))) (cells (f .pattern) (f .memory) ++ f .beyond) (size (f .pattern)) (length-entry-words (f .pattern)))
+      (drop-at (entryWords (postfix (f .pattern))) (cells (f .pattern) (f .memory) ++ f .beyond) (size (f .pattern))
+      (length-entry-words (f .pattern)))
 
   pub front-words : take (2 + getD s 0 0) s ≡ size (f .pattern) ∷ f .next ∷ entryWords (postfix (f .pattern))
   front-words =
       take-add 2 (getD s 0 0) s
       ∙ rw (after-two, count-word, parts)
       (ap (λ (l : List ℕ). size (f .pattern) ∷ f .next ∷ l)
-      (take-at (entryWords (postfix (f .pattern))) (cells (f .pattern) (f .memory) ++ f .beyond) (size (f .pattern)) (length-entry-words (f .pattern))))
+      (take-at (entryWords (postfix (f .pattern))) (cells (f .pattern) (f .memory) ++ f .beyond) (size (f .pattern))
+      (length-entry-words (f .pattern))))
 
   pub state-long : 2 + getD s 0 0 ≤ length s
   state-long =
-      omega (arith, count-word, ap length parts, length-entry-words (f .pattern),
-      length-append (entryWords (postfix (f .pattern))) (cells (f .pattern) (f .memory) ++ f .beyond))
+      omega (
+        arith,
+        count-word,
+        ap length parts,
+        length-entry-words (f .pattern),
+        length-append (entryWords (postfix (f .pattern))) (cells (f .pattern) (f .memory) ++ f .beyond),
+      )

@@ -73,8 +73,15 @@ tick-pair τ op x y m t w k f written ahead =
     let c : List ℕ = own op x y m in
     let d : length (padded y (next y (right op x y m) t w)) ≡ p y = length-padded y (next y (right op x y m) t w) in
     let l : length c ≡ cellWords op (p y) = length-own op x y m in
-    rw (d, take-at c ahead (cellWords op (p y)) l, drop-at c ahead (cellWords op (p y)) l, own-after τ op x y m t w k f, own-answer τ op x y m t w f,
-    next-left op x y m t w, next-right op x y m t w)
+    rw (
+      d,
+      take-at c ahead (cellWords op (p y)) l,
+      drop-at c ahead (cellWords op (p y)) l,
+      own-after τ op x y m t w k f,
+      own-answer τ op x y m t w f,
+      next-left op x y m t w,
+      next-right op x y m t w,
+    )
 
 -- the cells written for the operands and then for the operator
 pub cells-written : (op : Op) (x y : Pattern) (m : Memory (pair op x y)) (t w : ℕ) (written : List ℕ)
@@ -92,9 +99,11 @@ tick-tree τ (pair op x y) m t w k f written ahead =
     let mx : Memory x = left op x y m in
     let my : Memory y = right op x y m in
     let seen : List ℕ = written ++ cells x (next x mx t w) in
-    rw (cells-ahead op x y m ahead,
-    tick-tree τ x mx t w k (form-left τ op x y m f) written (cells y my ++ (own op x y m ++ ahead)),
-    tick-tree τ y my t w k (form-right τ op x y m f) seen (own op x y m ++ ahead),
-    ← cells-written op x y m t w written)
+    rw (
+      cells-ahead op x y m ahead,
+      tick-tree τ x mx t w k (form-left τ op x y m f) written (cells y my ++ (own op x y m ++ ahead)),
+      tick-tree τ y my t w k (form-right τ op x y m f) seen (own op x y m ++ ahead),
+      ← cells-written op x y m t w written,
+    )
     (tick-pair τ op x y m t w k f (seen ++ cells y (next y my t w)) ahead)
 tick-tree τ (within x n) m t w k f written ahead = rw (tick-tree τ x m t w k f written ahead)

@@ -1,4 +1,5 @@
--- The walks over a state's entries, as machines: its form judged, and a tick. Inner contracts cite these, no public call does.
+-- The walks over entries, as machines: the room of a body; a state's form judged, and a tick. Inner contracts cite these, no public
+-- call does.
 -- Assumes nothing: these are definitions.
 use mathlib.Core.Bool.{Bool, true, false, cond}
 use mathlib.Core.List.{List, [], _∷_, _++_}
@@ -6,17 +7,42 @@ use mathlib.Core.Option.{Option, none, some}
 use Prim.Native.Nat.{ℕ, suc, _+_, _/_, _%_}
 use native.Mathlib.Decide.{decLe, ℕ-discrete}
 use lib.Dec.{leb}
-use lib.ListN.{length, getD, take, drop, set}
+use lib.ListN.{length, getD, take, drop, set, replicate}
 use Rattle.rules.specs.declared.Op.{Op}
 use Rattle.rules.specs.Bits.{bit}
 use Rattle.rules.specs.Decisions.{pick}
 use Rattle.rules.specs.Limits.{argumentBytes, mostEntries, ticks}
 use Rattle.body.specs.declared.Entry.{Entry}
-use Rattle.body.specs.Entry.{entryOf, entriesBy}
+use Rattle.body.specs.Entry.{entryOf, entriesBy, entries}
 use Rattle.body.specs.Check.{scan}
 use Rattle.body.specs.Machine.{Machine, run}
 use Rattle.cell.specs.Cell.{cellWords, possible, cellAnswer, cellAfter, startsAfter}
 use Rattle.cell.specs.Form.{cellFits}
+use Rattle.watcher.specs.State.{entryWords}
+
+-- p on the stack, and the words of the cells so far
+abbrev pub roomM : Machine
+roomM =
+    record {
+      X = ℕ;
+      G = ℕ;
+      onLetter = λ n g. (0, g);
+      onPair = λ op x y g. (possible op x y, g + cellWords op y);
+      onWithin = λ n x g. (x, g);
+    }
+
+-- the words of the cells of a body
+unfoldable pub cellsNeeded : List ℕ → ℕ
+cellsNeeded b = run roomM (entries argumentBytes b) [] 0 .1
+
+-- the words of its state
+unfoldable pub wordsNeeded : List ℕ → ℕ
+wordsNeeded b = 2 + length b / (argumentBytes + 1) + cellsNeeded b
+
+-- the words as opening leaves them: the number of entries, no tick yet, the entries, no pair in any cell, and the words beyond as they were
+unfoldable pub wordsOpened : List ℕ → List ℕ → List ℕ
+wordsOpened b old =
+    length b / (argumentBytes + 1) ∷ 0 ∷ (entryWords (entries argumentBytes b) ++ (replicate (cellsNeeded b) 0 ++ drop (wordsNeeded b) old))
 
 -- entry i of a state
 unfoldable pub entryIn : List ℕ → ℕ → Entry
@@ -34,13 +60,13 @@ onAhead (some ahead) go = go ahead
 -- p on the stack, and the words not yet judged
 abbrev pub judgeM : ℕ → Machine
 judgeM τ =
-    record
-      { X = ℕ
-      ; G = Option (List ℕ)
-      ; onLetter = λ n g. (0, g)
-      ; onPair = λ op x y g. (possible op x y, onAhead g (judgeCell τ op y))
-      ; onWithin = λ n x g. (x, g)
-      }
+    record {
+      X = ℕ;
+      G = Option (List ℕ);
+      onLetter = λ n g. (0, g);
+      onPair = λ op x y g. (possible op x y, onAhead g (judgeCell τ op y));
+      onWithin = λ n x g. (x, g);
+    }
 
 abbrev pub isSome : Option (List ℕ) → Bool
 isSome none = false
@@ -81,13 +107,13 @@ withinAnswer t n a = pick (decLe (suc t) (a + n)) a 0
 
 abbrev pub tickM : ℕ → ℕ → Machine
 tickM t w =
-    record
-      { X = Value
-      ; G = Cells
-      ; onLetter = λ n g. ((letterAnswer t w n, []), g)
-      ; onPair = tickPair t
-      ; onWithin = λ n x g. ((withinAnswer t n (x .0), x .1), g)
-      }
+    record {
+      X = Value;
+      G = Cells;
+      onLetter = λ n g. ((letterAnswer t w n, []), g);
+      onPair = tickPair t;
+      onWithin = λ n x g. ((withinAnswer t n (x .0), x .1), g);
+    }
 
 -- all the entries of a state: the stack, and the cells written and ahead
 unfoldable pub ticked : ℕ → ℕ → List ℕ → List Value × Cells
