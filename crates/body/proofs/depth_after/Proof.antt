@@ -1,0 +1,65 @@
+-- `body::depth_after` meets its contract: each arm is the case of `depthOf`. Assumes nothing.
+use borrow.Author.Tests.{le-leb, lt-leb}
+use Rattle.body.specs.Check.{depthOf}
+use borrow.Author.Needs.{needs}
+use Rattle.body.proofs.depth_after.Statement.{statement}
+use Rattle.body.proofs.depth_after.Tie as tie
+
+enum-told : tie.Need-enum-told
+enum-told c = search needs
+
+add-t4 : tie.Need-add-t4
+add-t4 c = search needs
+
+enum-told-2 : tie.Need-enum-told-2
+enum-told-2 c = search needs
+
+sub-t7 : tie.Need-sub-t7
+sub-t7 c = search needs
+
+enum-told-3 : tie.Need-enum-told-3
+enum-told-3 c = search needs
+
+enum-told-4 : tie.Need-enum-told-4
+enum-told-4 c = search needs
+
+returns : tie.Need-returns
+unfolding depthOf
+returns c = rw (c .enum-told .given .1)
+
+returns-2 : tie.Need-returns-2
+unfolding depthOf
+returns-2 c = rw (c .before .enum-told2 .given .1, le-leb _ _ (c .if1 .taken))
+
+returns-3 : tie.Need-returns-3
+unfolding depthOf
+returns-3 c = rw (c .before .enum-told2 .given .1, lt-leb _ _ (c .if1 .left))
+
+returns-4 : tie.Need-returns-4
+unfolding depthOf
+returns-4 c = rw (c .before .enum-told3 .given .1, le-leb _ _ (c .if2 .taken))
+
+returns-5 : tie.Need-returns-5
+unfolding depthOf
+returns-5 c = rw (c .before .enum-told3 .given .1, lt-leb _ _ (c .if2 .left))
+
+returns-6 : tie.Need-returns-6
+unfolding depthOf
+returns-6 c = rw (c .enum-told4 .given .1)
+
+pub depth-after-spec : {M : Type 1} → statement M
+depth-after-spec =
+    tie.close
+    (tie.spec
+    enum-told
+    add-t4
+    enum-told-2
+    sub-t7
+    enum-told-3
+    enum-told-4
+    returns
+    returns-2
+    returns-3
+    returns-4
+    returns-5
+    returns-6)
