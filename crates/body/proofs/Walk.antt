@@ -18,6 +18,7 @@ use Rattle.body.specs.declared.BodyCheck.the-variants.{Sound, Refused}
 use Rattle.body.specs.Entry.{entryAt, entriesBy, entries}
 use Rattle.body.specs.Check.{onDepth, depthOf, scan, checkOf}
 use Rattle.body.specs.Machine.{Machine, step, run}
+use Rattle.body.proofs.Sizes.{sized-whole, sound-parts}
 use Rattle.body.proofs.Scan.{left-suc, left-zero, scan-turn, scan-end}
 
 -- one turn of a machine, and its end
@@ -72,3 +73,17 @@ module _ (f : ℕ → Entry) (n i d : ℕ) (h : i < n) (r : Rest f n i d) where
   pub rest-wrong : f i ≡ Wrong → ⊥
   unfolding depthOf
   rest-wrong e = not-none i (turned Wrong e)
+
+-- where the walk over a sound body begins
+pub record Start (width : ℕ) (b : List ℕ) : Type 0 where
+  pub full : length b ≡ (width + 1) * (length b / (width + 1))
+  pub least : 1 ≤ length b / (width + 1)
+  pub most : length b / (width + 1) ≤ mostEntries
+  pub rest : Rest (entryAt width b) (length b / (width + 1)) 0 0
+
+pub sound-start : (width : ℕ) (b : List ℕ) → checkOf width b ≡ Sound → Start width b
+unfolding entries
+sound-start width b p =
+    let q = sound-parts width b p in
+    let w = sized-whole width (length b) (q .0) in
+    record { full = w .full; least = w .least; most = w .most; rest = simp sub-zero (q .1) }

@@ -1,11 +1,12 @@
 -- What is claimed of the check of a body, over the width of an argument. Assumes nothing: these are definitions.
-use Prim.Native.Nat.{ℕ, _<_, _≤_}
+use Prim.Native.Nat.{ℕ, _+_, _*_, _<_, _≤_}
 use mathlib.Core.Path.{_≡_}
 use mathlib.Core.Logic.{_⊎_, _↔_}
 use mathlib.Core.List.{List, [], _∷_, _++_}
 use lib.ListN.{length, take, getD}
+use Rattle.rules.specs.Limits.{mostEntries}
 use Rattle.rules.specs.Pattern.{Pattern}
-use Rattle.refusal.specs.declared.Refusal.the-variants.{Body}
+use Rattle.refusal.specs.declared.Refusal.the-variants.{Size, Body}
 use Rattle.body.specs.declared.Entry.{Entry}
 use Rattle.body.specs.declared.Entry.the-variants.{Letter, Pair, Within, Wrong}
 use Rattle.body.specs.declared.BodyCheck.the-variants.{Sound, Refused}
@@ -45,6 +46,29 @@ pub record Lowest (es : List Entry) (i : ℕ) : Type 0 where
   pub whole : take i es ≡ forest trees
   pub broken : ((i < length es) × Breaks (getD es i Wrong) (length trees)) ⊎ ((i ≡ length es) × (2 ≤ length trees))
 
+-- n bytes are 1 to 63 entries, with arguments of `width` bytes
+pub record Counted (width n : ℕ) : Type 0 where
+  pub count : ℕ
+  pub full : n ≡ (width + 1) * count
+  pub least : 1 ≤ count
+  pub most : count ≤ mostEntries
+
 -- a refusal names the lowest entry that breaks a rule
 abbrev pub RefusedLowest : ℕ → Type 0
 RefusedLowest width = (b : List ℕ) (i : ℕ) → checkOf width b ≡ Refused (Body 0 i) → Lowest (entries width b) i
+
+-- and where the length is that of 1 to 63 entries, the lowest entry that breaks a rule is refused
+abbrev pub LowestRefused : ℕ → Type 0
+LowestRefused width = (b : List ℕ) (i : ℕ) → Counted width (length b) → Lowest (entries width b) i → checkOf width b ≡ Refused (Body 0 i)
+
+-- Size is given exactly if the length is not that of 1 to 63 entries
+abbrev pub RefusedSize : ℕ → Type 0
+RefusedSize width = (b : List ℕ) → checkOf width b ≡ Refused Size ↔ (Counted width (length b) → ⊥)
+
+-- a body is sound, or its size is refused, or one of its entries or the number of its entries
+abbrev pub Answered : ℕ → Type 0
+Answered width =
+    (b : List ℕ)
+    → (checkOf width b ≡ Sound)
+    ⊎ (checkOf width b ≡ Refused Size)
+    ⊎ ((i : ℕ) × (i ≤ length (entries width b)) × (checkOf width b ≡ Refused (Body 0 i)))

@@ -1,0 +1,13 @@
+pub mod Decisions
+pub mod Good
+pub mod Operators
+pub mod From
+pub mod Choice
+pub mod Chain
+pub mod Order
+pub mod Form
+pub mod Step
+pub mod Exact
+pub mod History
+pub mod Run
+pub mod Theorem

@@ -1,0 +1,1 @@
+// The bounded detector on trees: definitions and a theorem, no code.
