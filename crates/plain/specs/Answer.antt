@@ -2,7 +2,7 @@
 use mathlib.Core.Path.{_≡_}
 use mathlib.Core.Bool.{cond}
 use mathlib.Core.List.{List}
-use Prim.Native.Nat.{ℕ, _+_, _*_, _/_}
+use Prim.Native.Nat.{ℕ, _+_, _*_, _/_, _≤_}
 use lib.Dec.{ltb}
 use lib.ListN.{length}
 use Rattle.rules.specs.Limits.{argumentBytes, mostWords}
@@ -40,3 +40,9 @@ RowsAfter b words old new (Refused r) = new ≡ old
 pub record Answers (b words old new : List ℕ) (answer : Evaluation) : Type 0 where
   pub answered : answer ≡ evaluationOf b (length words) (length old)
   pub rows : RowsAfter b words old new answer
+
+-- a sound body, a record that is not too long, and its rows: what the filling of all rows is given
+pub record Ready (b words rows : List ℕ) : Type 0 where
+  pub sound : checkOf argumentBytes b ≡ Checked.Sound
+  pub short : length words ≤ mostWords
+  pub room : rowsNeeded b ≤ length rows

@@ -11,6 +11,7 @@ ghost use Rattle.rules.specs.Bits.{On, onesBelow};
 ghost use Rattle.rules.specs.Instances.{Occurs, Rule, Short};
 ghost use Rattle.plain.specs.Row.{Exactly, IsLatest};
 ghost use Rattle.plain.specs.Rows.{Shown, rowsOf, worded};
+ghost use Rattle.plain.specs.Answer.{Answers, RowsAfter, Ready};
 ghost use Rattle.plain.specs.Fill.{Before, Seen, Lesser, Masked, PairReady, Filled};
 
 // What evaluating answers.
@@ -23,6 +24,26 @@ pub enum Evaluation {
 pub enum Start {
     Nowhere,
     At(u32),
+}
+
+// Evaluates a body on at most 64 event words: 64 rows for each entry, bit s of row e for the instance from s to e.
+pub fn evaluate(body: &[u8], events: &[u32], rows: &mut [u64]) -> Evaluation
+    ensures { λ r. ⌜ Answers (now (body .entry)) (now (events .entry)) (now (rows .entry)) (now (rows .exit)) r ⌝ }
+{
+    match body::check_body(body) {
+        BodyCheck::Refused(r) => Evaluation::Refused(r),
+        BodyCheck::Sound => {
+            if 64 < events.len() {
+                return Evaluation::Refused(Refusal::Record);
+            }
+            let needed = body.len() / 5 * 64;
+            if rows.len() < needed {
+                return Evaluation::Refused(Refusal::Room(needed));
+            }
+            fill_rows(body, events, rows);
+            Evaluation::Evaluated
+        }
+    }
 }
 
 // The latest start among the instances that a row shows.
@@ -40,6 +61,41 @@ pub fn instances(row: u64) -> u32
     ensures { λ r. ⌜ r ≡ onesBelow 64 row ⌝ }
 {
     u64::count_ones(row)
+}
+
+// The rows of every entry of a sound body; `tops` has the places of the trees that no entry has taken yet.
+fn fill_rows(body: &[u8], events: &[u32], rows: &mut [u64])
+    requires { ⌜ Ready (now body) (now events) (now rows) ⌝ }
+    ensures { λ _. ⌜ RowsAfter (now (body .entry)) (now (events .entry)) (now (rows .entry)) (now (rows .exit)) Evaluation.Evaluated ⌝ }
+{
+    let n = body.len() / 5;
+    let mut tops = [0usize; 63];
+    let mut d: usize = 0;
+    let mut i: usize = 0;
+    while i < n {
+        let entry = body::entry_at(body, i);
+        let k = i;
+        i += 1;
+        match entry {
+            Entry::Letter(kind) => {
+                fill_letter(rows, events, kind, k);
+                tops[d] = k;
+                d += 1;
+            }
+            Entry::Pair(op) => {
+                body::at_least(d, 2);
+                fill_pair(rows, op, tops[d - 2], tops[d - 1], k);
+                tops[d - 2] = k;
+                d -= 1;
+            }
+            Entry::Within(limit) => {
+                body::at_least(d, 1);
+                fill_within(rows, limit, tops[d - 1], k);
+                tops[d - 1] = k;
+            }
+            Entry::Wrong => {}
+        }
+    }
 }
 
 // The rows of entry k, a letter.
