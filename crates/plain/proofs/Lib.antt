@@ -5,3 +5,4 @@ pub mod Steps
 pub mod Ends
 pub mod Loops
 pub mod Answers
+pub mod Theorem

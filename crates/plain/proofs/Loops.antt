@@ -99,7 +99,7 @@ filling-more b words old n rows tops d i v h X q st rows′ tops′ d′ el fill
     at k l (yes e) = rw (e, getD-at (v .done) q [] (event 0) i (v .count)) shown
     at k l (no e) =
         let o : rowsOf rows′ k ≡ rowsOf rows k =
-            same-rows rows′ rows k i (omega arith) (omega (arith, v .room, v .same)) el (λ j m. fill .kept j (inl m)) in
+        same-rows rows′ rows k i (omega arith) (omega (arith, v .room, v .same)) el (λ j m. fill .kept j (inl m)) in
         rw (o, List·getD-append (v .done) (q ∷ []) (event 0) k (omega (arith, v .count))) (v .held k (omega arith))
 
 module _ (b words old : List ℕ) (n : ℕ) (rows tops : List ℕ) (d i : ℕ) (v : Filling b words old n rows tops d i) (h : i < n)
@@ -153,7 +153,7 @@ module _ (b words old : List ℕ) (n : ℕ) (rows tops : List ℕ) (d i : ℕ) (
       let hx = rw (o .is) at (v .held x (omega (arith, o .inside, v .count))) in
       let z : d - 1 + 1 ≡ d = omega arith in
       let p : stack (set tops (d - 1) i) d ≡ i ∷ stack tops (d - 1) =
-          ap (stack (set tops (d - 1) i)) (sym z) ∙ stack-set tops (d - 1) i (omega (arith, v .long, v .deep, v .few)) in
+      ap (stack (set tops (d - 1) i)) (sym z) ∙ stack-set tops (d - 1) i (omega (arith, v .long, v .deep, v .few)) in
       filling-more b words old n rows tops d i v h _ q (q ∷ o .st) rows′ (set tops (d - 1) i) d el fill
       (filled-short a x i rows rows′ _ hx fill)
       (length-set tops (d - 1) i ∙ v .long) (omega (arith, v .deep)) (r .1)

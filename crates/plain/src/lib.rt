@@ -120,7 +120,11 @@ fn letter_row(events: u32, kind: u64, e: usize) -> u64
     requires { ⌜ e < 64 ⌝ }
     ensures { λ r. ⌜ Exactly r (λ s. (s ≡ e) × On events kind) ⌝ }
 {
-    if rules::occurs(events, kind) { 1 << e } else { 0 }
+    if rules::occurs(events, kind) {
+        1 << e
+    } else {
+        0
+    }
 }
 
 // The rows of entry k, a restriction of entry x.
@@ -141,7 +145,14 @@ fn fill_within(rows: &mut [u64], limit: u64, x: usize, k: usize)
 fn within_row(row: u64, e: u64, limit: u64) -> u64
     ensures { λ r. ⌜ Exactly r (λ s. On row s × (e - s ≤ limit)) ⌝ }
 {
-    if limit < e { from(row, e - limit) } else { row }
+    from(row, earliest(e, limit))
+}
+
+// The earliest start of a short enough instance that ends at e.
+fn earliest(e: u64, limit: u64) -> u64
+    ensures { λ r. ⌜ r ≡ e - limit ⌝ }
+{
+    if limit < e { e - limit } else { 0 }
 }
 
 // The rows of entry k, an operator on the entries x and y.

@@ -60,7 +60,7 @@ loop-again c =
     let a = s .args in
     let kept = made-kept _ _ _ (a .x) _ _ (s .pre .0) (omega arith) (l .inv) in
     let same : getD (rowsOf (a .rows .now) (a .x)) (l .e) 0 ≡ getD (l .rows) (a .x * 64 + l .e) 0 =
-        ap (λ (z : List ℕ). getD z (l .e) 0) (sym kept) ∙ row-at (l .rows) (a .x) (l .e) (omega arith) in
+    ap (λ (z : List ℕ). getD z (l .e) 0) (sym kept) ∙ row-at (l .rows) (a .x) (l .e) (omega arith) in
     made-more _ _ _ (c .within-row .result) _ _ (s .pre .1) (omega arith) (l .inv) (rw same (c .within-row .ensures))
 
 same-length : tie.Need-same-length Inv-loop μ-loop
