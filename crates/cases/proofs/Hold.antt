@@ -1,0 +1,41 @@
+-- All starred cases hold: those on windows by one test that computes, those on rows as proved. Assumes nothing.
+use mathlib.Core.Path.{_≡_, refl}
+use mathlib.Core.Bool.{Bool, true, false, cond}
+use mathlib.Core.List.{List, [], _∷_}
+use Prim.Native.Nat.{ℕ}
+use native.Mathlib.Decide.{decLe, decLt, ℕ-discrete}
+use native.Mathlib.Omega.{arith}
+use Rattle.rules.specs.Bits.{bit}
+use Rattle.rules.specs.Lists.{All}
+use Rattle.detector.specs.Memory.{fresh}
+use Rattle.detector.specs.Choice.{better, choose, insert, keep, gather}
+use Rattle.detector.specs.Step.{later, answer, next}
+use Rattle.cases.specs.Cases.{Case, windows, rows, Holds, cases, AllHold}
+use Rattle.cases.proofs.Windows.{given, seen}
+use Rattle.cases.proofs.Rows.{chain-rows, both-rows}
+
+-- the detector gives what every case on windows says
+unfoldable tested : List Case → Bool
+tested [] = true
+tested (windows e l ∷ cs) = cond (given e (fresh e) 0 l) (tested cs) false
+tested (rows e words shown ∷ cs) = tested cs
+
+-- every case on rows holds
+abbrev RowsHold : List Case → Type 0
+RowsHold [] = Unit {0}
+RowsHold (windows e l ∷ cs) = RowsHold cs
+RowsHold (rows e words shown ∷ cs) = Holds (rows e words shown) × RowsHold cs
+
+passed : (a b : Bool) → cond a b false ≡ true → (a ≡ true) × (b ≡ true)
+passed true b p = (refl, p)
+passed false b p = let z : _≡_ {A = ℕ} 0 1 = cc in absurd (omega arith)
+
+hold : (cs : List Case) → tested cs ≡ true → RowsHold cs → All Holds cs
+unfolding tested
+hold [] p r = tt
+hold (windows e l ∷ cs) p r = let q = passed (given e (fresh e) 0 l) (tested cs) p in (seen e l (q .0), hold cs (q .1) r)
+hold (rows e words shown ∷ cs) p r = (r .0, hold cs p (r .1))
+
+pub all-hold : AllHold
+unfolding tested given answer next later choose better gather keep insert fresh bit decLe decLt ℕ-discrete
+all-hold = hold cases refl (chain-rows, (both-rows, tt))

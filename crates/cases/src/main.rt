@@ -1,0 +1,7 @@
+// The cases of document 01 that are run. Each prints its name, then a refusal's number, place and entry, 0 0 0 where nothing is refused.
+mod bodies;
+mod show;
+
+fn main() {
+    bodies::run();
+}

@@ -1,0 +1,27 @@
+// What a case prints.
+use libc::STDOUT_FILENO;
+use refusal::Refusal;
+
+// A name and three numbers, on a line of their own.
+pub fn line(name: &[u8], first: u64, second: u64, third: u64) {
+    io::write_all(STDOUT_FILENO, name);
+    number(first);
+    number(second);
+    number(third);
+    io::write_all(STDOUT_FILENO, b"\n");
+}
+
+// A refusal by its number, place and entry.
+pub fn refused(name: &[u8], r: Refusal) {
+    line(
+        name,
+        refusal::number(r),
+        refusal::place(r),
+        refusal::entry(r),
+    );
+}
+
+fn number(n: u64) {
+    io::write_all(STDOUT_FILENO, b" ");
+    io::print_decimal(STDOUT_FILENO, n);
+}
