@@ -8,6 +8,7 @@ pub mod Ticks
 pub mod Runs
 pub mod Places
 pub mod Calls
+pub mod Walking
 pub mod Opens
 pub mod Agrees
 pub mod Theorem
