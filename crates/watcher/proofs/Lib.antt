@@ -9,6 +9,7 @@ pub mod Runs
 pub mod Places
 pub mod Calls
 pub mod Walking
+pub mod Judging
 pub mod Opens
 pub mod Agrees
 pub mod Theorem
