@@ -1,29 +1,29 @@
 -- The judge's walk, a turn at a time, for a loop: the place of the next cell and the stack lead to the whole walk's end.
 -- Assumes nothing.
 use Prim.Native.Nat.{ℕ, _+_, _-_, _≤_, _<_}
-use mathlib.Core.Path.{_≡_, refl, sym, ap, ap₂, subst, _∙_}
+use mathlib.Core.Path.{_≡_, refl, sym, ap, _∙_}
 use mathlib.Core.Bool.{true, false}
 use mathlib.Core.List.{List, [], _∷_}
 use mathlib.Core.Option.{Option, none, some}
 use native.Mathlib.Nat.{sub-zero}
 use native.Mathlib.Omega.{arith}
-use lib.ListN.{length, getD, take, drop, length-drop}
+use lib.ListN.{length, getD, drop, length-drop}
 use lib.Seq.{drop-drop}
 use borrow.Author.Tests.{le-leb, lt-leb}
 use borrow.Rule.Slice.PartMut.{midOf}
 use Rattle.rules.specs.declared.Op.{Op}
-use Rattle.rules.specs.Limits.{mostEntries}
 use Rattle.body.specs.declared.Entry.{Entry}
-use Rattle.body.specs.declared.Entry.the-variants.{Letter, Pair, Within, Wrong}
+use Rattle.body.specs.declared.Entry.the-variants.{Letter, Pair, Within}
 use Rattle.body.specs.Entry.{entriesBy}
 use Rattle.body.specs.Check.{scan}
 use Rattle.body.specs.Machine.{step, run}
-use Rattle.body.proofs.Walk.{Rest, run-turn, run-end, rest-letter, rest-pair, rest-within, rest-wrong}
+use Rattle.body.proofs.Walk.{run-end}
 use Rattle.cell.specs.Cell.{cellWords, possible}
 use Rattle.cell.specs.Form.{cellFits}
 use Rattle.watcher.specs.Walk.{entryIn, judgeCell, judgeM, judged}
 use Rattle.watcher.proofs.Judges.{run-none}
-use Rattle.watcher.proofs.Runs.{rest-depth, possible-le}
+use Rattle.watcher.proofs.Entries.{run-step}
+use Rattle.watcher.proofs.Piles.{Piled, piled-start, piled-letter, piled-within, piled-pair}
 
 -- a cell at a place, judged
 module _ (τ : ℕ) (op : Op) (b at : ℕ) (s : List ℕ) where
@@ -46,27 +46,18 @@ module _ (τ : ℕ) (op : Op) (b at : ℕ) (s : List ℕ) where
       let k : cellWords op b ≤ length (drop at s) = omega (arith, length-drop at s) in
       rw (le-leb (cellWords op b) (length (drop at s)) k, f)
 
--- the sum of the p on the stack
-unfoldable pub total : List ℕ → ℕ
-total [] = 0
-total (x ∷ st) = x + total st
-
 -- before entry i: the next cell begins at a place, and st is the stack
 pub record Judging (s : List ℕ) (i at : ℕ) (st : List ℕ) : Type 0 where
   pub inside : at ≤ length s
-  pub few : total st + length st ≤ i
-  pub rest : Rest (entryIn s) (getD s 0 0) i (length st)
+  pub piled : Piled (entryIn s) (getD s 0 0) i st
   pub same : run (judgeM (getD s 1 0)) (entriesBy (entryIn s) i (getD s 0 0 - i)) st (some (drop at s)) .1 ≡ judged s
 
 pub judging-start : (s : List ℕ) → 2 + getD s 0 0 ≤ length s → scan (entriesBy (entryIn s) 0 (getD s 0 0)) 0 0 ≡ none
     → Judging s 0 (2 + getD s 0 0) []
-unfolding total judged
-judging-start s h q = record { inside = h; few = omega arith; rest = simp sub-zero q; same = simp sub-zero }
+unfolding judged
+judging-start s h q = record { inside = h; piled = piled-start (entryIn s) (getD s 0 0) (simp sub-zero q); same = simp sub-zero }
 
 module _ {s : List ℕ} {i at : ℕ} {st : List ℕ} (x : Judging s i at st) where
-  pub judging-low : i ≤ getD s 0 0 → getD s 0 0 ≤ mostEntries → length st ≤ 32
-  judging-low h k = omega (arith, rest-depth (entryIn s) (getD s 0 0) i (length st) (x .rest), x .few)
-
   -- the end: every cell is in form
   pub judging-end : getD s 0 0 ≤ i → judged s ≡ some (drop at s)
   judging-end h =
@@ -78,44 +69,29 @@ module _ {s : List ℕ} {i at : ℕ} {st : List ℕ} (x : Judging s i at st) whe
     turned : (e : Entry) → entryIn s i ≡ e → (st′ : List ℕ) (g : Option (List ℕ)) → step (judgeM (getD s 1 0)) e st (some (drop at s)) ≡ (st′, g)
         → run (judgeM (getD s 1 0)) (entriesBy (entryIn s) (i + 1) (getD s 0 0 - (i + 1))) st′ g .1 ≡ judged s
     turned e q st′ g d =
-        let M = judgeM (getD s 1 0) in
-        let ss : List Entry = entriesBy (entryIn s) (i + 1) (getD s 0 0 - (i + 1)) in
-        let z : step M (entryIn s i) st (some (drop at s)) ≡ (st′, g) = ap (λ (a : Entry). step M a st (some (drop at s))) q ∙ d in
-        ap (λ (r : List ℕ × Option (List ℕ)). run M ss (r .0) (r .1) .1) (sym z)
-        ∙ ap (λ (r : List ℕ × Option (List ℕ)). r .1) (sym (run-turn M (entryIn s) (getD s 0 0) i st (some (drop at s)) h))
+        ap (λ (r : List ℕ × Option (List ℕ)). r .1)
+        (run-step (judgeM (getD s 1 0)) (entryIn s) (getD s 0 0) i st st′ (some (drop at s)) g e h q d)
         ∙ x .same
 
     pub judging-letter : (n : ℕ) → entryIn s i ≡ Letter n → Judging s (i + 1) at (0 ∷ st)
-    unfolding step total
-    judging-letter n q =
-        let d : length st + 1 ≡ length (0 ∷ st) = omega arith in
-        record {
-          inside = x .inside;
-          few = omega (arith, x .few);
-          rest = subst (Rest (entryIn s) (getD s 0 0) (i + 1)) d (rest-letter (entryIn s) (getD s 0 0) i (length st) h (x .rest) n q);
-          same = turned (Letter n) q (0 ∷ st) (some (drop at s)) refl;
-        }
+    unfolding step
+    judging-letter n q = record {
+      inside = x .inside;
+      piled = piled-letter (x .piled) h n q;
+      same = turned (Letter n) q (0 ∷ st) (some (drop at s)) refl;
+    }
 
-    -- a restriction leaves all as it is
     pub judging-within : (n : ℕ) → entryIn s i ≡ Within n → Judging s (i + 1) at st
     unfolding step
     judging-within n q = record {
       inside = x .inside;
-      few = omega (arith, x .few);
-      rest = rest-within (entryIn s) (getD s 0 0) i (length st) h (x .rest) n q .1;
+      piled = piled-within (x .piled) h n q;
       same = turned (Within n) q st (some (drop at s)) (within-same st);
     }
       where
         within-same : (st : List ℕ) → step (judgeM (getD s 1 0)) (Within n) st (some (drop at s)) ≡ (st, some (drop at s))
         within-same [] = refl
         within-same (a ∷ st) = refl
-
-    -- an operator finds its operands
-    pub judging-two : (op : Op) → entryIn s i ≡ Pair op → 2 ≤ length st
-    judging-two op q = rest-pair (entryIn s) (getD s 0 0) i (length st) h (x .rest) op q .0
-
-    pub judging-wrong : entryIn s i ≡ Wrong → ⊥
-    judging-wrong q = rest-wrong (entryIn s) (getD s 0 0) i (length st) h (x .rest) q
 
 -- an operator: its cell is in form; or it is cut short, or not in form, and then so is the state
 module _ {s : List ℕ} {i at a b : ℕ} {st : List ℕ} (x : Judging s i at (b ∷ a ∷ st)) (h : i < getD s 0 0) (op : Op) (q : entryIn s i ≡ Pair op) where
@@ -126,16 +102,11 @@ module _ {s : List ℕ} {i at a b : ℕ} {st : List ℕ} (x : Judging s i at (b 
 
   pub judging-pair : at + cellWords op b ≤ length s → cellFits (getD s 1 0) op (midOf at (cellWords op b) s) ≡ true
       → Judging s (i + 1) (at + cellWords op b) (possible op a b ∷ st)
-  unfolding total
-  judging-pair l f =
-      let r = rest-pair (entryIn s) (getD s 0 0) i (length (b ∷ a ∷ st)) h (x .rest) op q .1 in
-      let d : length (b ∷ a ∷ st) - 1 ≡ length (possible op a b ∷ st) = omega arith in
-      record {
-        inside = l;
-        few = omega (arith, x .few, possible-le op a b);
-        rest = subst (Rest (entryIn s) (getD s 0 0) (i + 1)) d r;
-        same = stepped (some (drop (at + cellWords op b) s)) (cell-taken (getD s 1 0) op b at s l f);
-      }
+  judging-pair l f = record {
+    inside = l;
+    piled = piled-pair (x .piled) h op q;
+    same = stepped (some (drop (at + cellWords op b) s)) (cell-taken (getD s 1 0) op b at s l f);
+  }
 
   pub judging-short : length s < at + cellWords op b → judged s ≡ none
   judging-short l =

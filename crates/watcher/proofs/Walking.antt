@@ -1,7 +1,7 @@
 -- A tick's walk, a turn at a time, for a loop: the words so far, the place of the next cell and the stack lead to the whole walk's end.
 -- Assumes nothing.
-use Prim.Native.Nat.{ℕ, suc, _+_, _-_, _≤_, _<_, _^_}
-use mathlib.Core.Path.{_≡_, refl, sym, ap, ap₂, subst, _∙_}
+use Prim.Native.Nat.{ℕ, _+_, _-_, _≤_, _<_, _^_}
+use mathlib.Core.Path.{_≡_, refl, sym, ap, subst, _∙_}
 use mathlib.Core.Bool.{true}
 use mathlib.Core.List.{List, [], _∷_, _++_}
 use native.Mathlib.Omega.{arith}
@@ -9,17 +9,18 @@ use lib.ListN.{length, getD, take, drop, set}
 use lib.Seq.{length-take-le}
 use borrow.Rule.Slice.PartMut.{midOf, putMid}
 use Rattle.rules.specs.declared.Op.{Op}
-use Rattle.rules.specs.Limits.{letters, argumentBytes, ticks}
+use Rattle.rules.specs.Limits.{letters, argumentBytes}
 use Rattle.rules.specs.Lists.{All}
 use Rattle.body.specs.declared.Entry.{Entry}
 use Rattle.body.specs.declared.Entry.the-variants.{Letter, Pair, Within, Wrong}
 use Rattle.body.specs.Entry.{entriesBy}
 use Rattle.body.specs.Machine.{step, run}
-use Rattle.body.proofs.Walk.{run-turn, run-end}
+use Rattle.body.proofs.Walk.{run-end}
 use Rattle.cell.specs.Cell.{cellWords, cellAnswer, cellAfter, startsAfter}
 use Rattle.cell.proofs.Words.{length-after}
 use Rattle.watcher.specs.State.{InForm}
 use Rattle.watcher.specs.Walk.{Value, Cells, entryIn, tickPair, letterAnswer, withinAnswer, tickM, formed, ticked, lastAnswer, answerOf, wordsAfter}
+use Rattle.watcher.proofs.Entries.{run-step}
 use Rattle.watcher.proofs.States.{count-word, next-word, state-long}
 use Rattle.watcher.proofs.Judges.{formed-exactly}
 use Rattle.watcher.proofs.Runs.{Ready, startsOn, Small, Stands, Runs, runs-start, walk-start, turn-stands, turn-ready, turn-runs}
@@ -102,10 +103,7 @@ module _ {t w : ℕ} {old s : List ℕ} {i at : ℕ} {st : List Value} (x : Walk
           runs =
               subst (λ (r : List Value × Cells). Runs t w (i + 1) ss (r .0) (r .1)) z
               (turn-runs t w n i (entryIn old) st (x .cells) (x .runs) h);
-          same =
-              ap (λ (r : List Value × Cells). run (tickM t w) ss (r .0) (r .1)) (sym z)
-              ∙ sym (run-turn (tickM t w) (entryIn old) n i st (x .cells) h)
-              ∙ x .same;
+          same = run-step (tickM t w) (entryIn old) n i st st′ (x .cells) g e h entry-old d ∙ x .same;
         }
 
 -- a letter
