@@ -132,7 +132,7 @@ walking-within {t} {w} {old} {s} {i} {at} {v} {st} x h n q =
 
 -- an operator: its cell lies within the words, and what it becomes is put in its place
 module _ {t w : ℕ} {old s : List ℕ} {i at : ℕ} {u v : Value} {st : List Value} (x : Walking t w old s i at (v ∷ u ∷ st)) (h : i < getD old 0 0)
-         (op : Op) (q : entryIn s i ≡ Pair op) where
+    (op : Op) (q : entryIn s i ≡ Pair op) where
   pub walking-cell : at + cellWords op (length (v .1)) ≤ length s
   walking-cell = omega (arith, ready x h (Pair op) q, held-length old (state-long (x .form)) (x .held))
 
