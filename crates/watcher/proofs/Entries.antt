@@ -1,6 +1,6 @@
 -- Words and entries: each gives the other back. An entry is read from its own word, and a word is that of the entry read from it,
 -- unless that breaks a rule by itself. Assumes nothing.
-use Prim.Native.Nat.{ℕ, zero, suc, _+_, _*_, _/_, _%_, _<_, _≤_, _^_}
+use Prim.Native.Nat.{ℕ, zero, suc, _+_, _-_, _*_, _/_, _%_, _<_, _≤_, _^_}
 use mathlib.Core.Path.{_≡_, refl, sym, ap, ap₂, _∙_}
 use mathlib.Core.Bool.{Bool, true, false, cond}
 use mathlib.Core.List.{List, [], _∷_, _++_, append-nil}
@@ -18,10 +18,11 @@ use Rattle.body.specs.declared.Entry.{Entry}
 use Rattle.body.specs.declared.Entry.the-variants.{Letter, Pair, Within, Wrong}
 use Rattle.body.specs.Entry.{opNumber, opOf, entryOf, entriesBy}
 use Rattle.body.specs.Postfix.{postfix}
-use Rattle.body.specs.Machine.{Machine, run, eval}
+use Rattle.body.specs.Machine.{Machine, step, run, eval}
 use Rattle.body.proofs.Entries.{Fits, entry-fits}
 use Rattle.body.proofs.Trees.{length-postfix, proper-fits}
 use Rattle.body.proofs.Machines.{run-postfix}
+use Rattle.body.proofs.Walk.{run-turn}
 use Rattle.watcher.specs.State.{wordOf, entryWords}
 use Rattle.watcher.specs.Walk.{entryIn}
 
@@ -124,3 +125,11 @@ length-words (e ∷ ss) = ap suc (length-words ss)
 pub run-tree : (M : Machine) (e : Pattern) (g : M .G) → run M (postfix e) [] g ≡ (eval M e g .0 ∷ [], eval M e g .1)
 unfolding run
 run-tree M e g = rw (append-nil (postfix e)) at (run-postfix M e [] [] g)
+
+-- a machine's turn, where its entry and its step are known
+pub run-step : (M : Machine) (f : ℕ → Entry) (n i : ℕ) (st st′ : List (M .X)) (g g′ : M .G) (e : Entry)
+    → i < n → f i ≡ e → step M e st g ≡ (st′, g′)
+    → run M (entriesBy f (i + 1) (n - (i + 1))) st′ g′ ≡ run M (entriesBy f i (n - i)) st g
+run-step M f n i st st′ g g′ e h q d =
+    let z : step M (f i) st g ≡ (st′, g′) = ap (λ (s : Entry). step M s st g) q ∙ d in
+    ap (λ (r : List (M .X) × M .G). run M (entriesBy f (i + 1) (n - (i + 1))) (r .0) (r .1)) (sym z) ∙ sym (run-turn M f n i st g h)

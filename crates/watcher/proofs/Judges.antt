@@ -31,7 +31,7 @@ use Rattle.body.proofs.Trees.{size-pos, length-postfix, proper-fits, fits-prope
 use Rattle.cell.specs.Cell.{cellWords, possible}
 use Rattle.cell.specs.Form.{cellFits}
 use Rattle.watcher.specs.State.{entryWords, cells, stateOf, InForm}
-use Rattle.watcher.specs.Walk.{entryIn, judgeCell, onAhead, judgeM, isSome, isNone, formed}
+use Rattle.watcher.specs.Walk.{entryIn, judgeCell, onAhead, judgeM, isSome, isNone, judged, formed}
 use Rattle.watcher.specs.Claim.{FormedExactly}
 use Rattle.watcher.proofs.Entries.{Fitting, words-entries, read-fits, run-tree}
 use Rattle.watcher.proofs.States.{state-parts, count-word, next-word, entries-read, cells-from, state-long}
@@ -156,7 +156,7 @@ pub record Judged (s : List ℕ) : Type 0 where
   pub long : 2 + getD s 0 0 ≤ length s
   pub sound : scan (entriesBy (entryIn s) 0 (getD s 0 0)) 0 0 ≡ none
   pub early : getD s 1 0 ≤ ticks
-  pub taken : isSome (run (judgeM (getD s 1 0)) (entriesBy (entryIn s) 0 (getD s 0 0)) [] (some (drop (2 + getD s 0 0) s)) .1) ≡ true
+  pub taken : isSome (judged s) ≡ true
 
 none-of : (o : Option ℕ) → isNone o ≡ true → o ≡ none
 none-of none q = refl
@@ -216,6 +216,7 @@ join s n τ es ahead e m beyond q count tree same =
     q ∙ rw (count, tree, same) (sym (state-parts e τ m beyond))
 
 pub judged-in-form : (s : List ℕ) → Judged s → InForm s
+unfolding judged
 judged-in-form s j =
     let n : ℕ = getD s 0 0 in
     let τ : ℕ = getD s 1 0 in
@@ -247,19 +248,25 @@ scan-whole : (e : Pattern) → scan (postfix e) 0 0 ≡ none
 unfolding scan
 scan-whole e = rw (append-nil (postfix e)) at (scan-postfix e [] 0 0)
 
+-- the words beyond the cells of a state in form
+in-form-cells : (s : List ℕ) (f : InForm s) → judged s ≡ some (f .beyond)
+unfolding judged
+in-form-cells s f =
+    let e : Pattern = f .pattern in
+    judge-run (getD s 1 0) (entriesBy (entryIn s) 0 (getD s 0 0)) e (some (drop (2 + getD s 0 0) s)) (entries-read f)
+    ∙ ap₂ (λ (τ : ℕ) (l : List ℕ). eval (judgeM τ) e (some l) .1) (next-word f) (cells-from f)
+    ∙ judge-complete (f .next) e (f .memory) (f .beyond) (f .form)
+
 in-form-judged : (s : List ℕ) → InForm s → Judged s
 in-form-judged s f =
-    let e : Pattern = f .pattern in
     let count = count-word f in
-    let taken : run (judgeM (f .next)) (postfix e) [] (some (cells e (f .memory) ++ f .beyond)) .1 ≡ some (f .beyond) =
-    judge-run (f .next) (postfix e) e (some (cells e (f .memory) ++ f .beyond)) refl ∙ judge-complete (f .next) e (f .memory) (f .beyond) (f .form) in
     record {
-      least = omega (arith, size-pos e);
+      least = omega (arith, size-pos (f .pattern));
       most = omega (arith, f .bodied .few);
       long = state-long f;
-      sound = rw (entries-read f) (scan-whole e);
+      sound = rw (entries-read f) (scan-whole (f .pattern));
       early = omega (arith, next-word f, f .early);
-      taken = rw (entries-read f, cells-from f, next-word f, taken);
+      taken = rw (in-form-cells s f);
     }
 
 -- the form judged is the form stated

@@ -3,11 +3,15 @@ pub mod Cells
 pub mod Fits
 pub mod States
 pub mod Judges
+pub mod Piles
+pub mod Judging
 pub mod Starts
 pub mod Ticks
 pub mod Runs
 pub mod Places
 pub mod Calls
+pub mod Walking
+pub mod Rooming
 pub mod Opens
 pub mod Agrees
 pub mod Theorem

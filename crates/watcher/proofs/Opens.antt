@@ -2,9 +2,11 @@
 -- Assumes nothing.
 use Prim.Native.Nat.{ℕ, zero, suc, _+_, _*_, _/_, _≤_, _<_}
 use mathlib.Core.Path.{_≡_, refl, sym, ap, _∙_}
-use mathlib.Core.List.{List, [], _++_}
+use mathlib.Core.List.{List, [], _∷_, _++_, append-assoc}
+use native.Mathlib.Nat.{add-zero}
 use native.Mathlib.Omega.{arith}
-use lib.ListN.{length, drop, replicate, replicate-append-replicate}
+use lib.ListN.{length, getD, drop, replicate, length-append, length-drop, length-replicate, getD-replicate, replicate-append-replicate, List·getD-append}
+use lib.Seq.{getD-drop, getD-append-add, drop-at}
 use Rattle.rules.specs.declared.Op.{Op}
 use Rattle.rules.specs.declared.Op.the-variants.{Either, Both, Without, Chain}
 use Rattle.rules.specs.Limits.{argumentBytes}
@@ -15,20 +17,20 @@ use Rattle.detector.specs.Possible.{p}
 use Rattle.body.specs.declared.Entry.{Entry}
 use Rattle.body.specs.declared.BodyCheck.the-variants.{Sound}
 use Rattle.body.specs.Bytes.{Bytes}
-use Rattle.body.specs.Entry.{entries}
+use Rattle.body.specs.Entry.{entryAt, entriesBy, entries}
 use Rattle.body.specs.Postfix.{postfix}
 use Rattle.body.specs.Check.{checkOf}
 use Rattle.body.specs.Machine.{run, eval}
 use Rattle.body.specs.Claim.{BodyOf}
 use Rattle.body.proofs.Sizes.{whole-count}
-use Rattle.body.proofs.Bodies.{length-encode, entries-encode, sound-pattern}
+use Rattle.body.proofs.Bodies.{length-encode, entries-encode, sound-pattern, length-by, length-read}
 use Rattle.cell.specs.Words.{keptWords}
 use Rattle.cell.specs.Cell.{cellWords}
 use Rattle.watcher.specs.declared.Needed.the-variants as Needs
-use Rattle.watcher.specs.State.{cells, cellRoom, roomOf, stateOf}
+use Rattle.watcher.specs.State.{wordOf, entryWords, cells, cellRoom, roomOf, stateOf}
 use Rattle.watcher.specs.Answer.{RoomAnswers, IsOpened, OpenRefused, short}
 use Rattle.watcher.specs.Walk.{roomM, cellsNeeded, wordsNeeded, wordsOpened}
-use Rattle.watcher.proofs.Entries.{run-tree}
+use Rattle.watcher.proofs.Entries.{run-tree, length-words}
 use Rattle.watcher.proofs.States.{state-parts}
 use Rattle.watcher.proofs.Cells.{left, right, own, cells-pair, possible-p}
 
@@ -122,3 +124,71 @@ module _ (b : List ℕ) (bytes : Bytes b) (sound : checkOf argumentBytes b ≡ S
   refused-room old h =
       let f = sound-pattern argumentBytes b bytes sound in
       short (f .0) (f .1) (omega (arith, body-room b (f .0) (f .1))) (ap Room (body-room b (f .0) (f .1)))
+
+-- the words of an opened state, one by one, for the loops that write them
+word-by : (f : ℕ → Entry) (i n k : ℕ) → k < n → getD (entryWords (entriesBy f i n)) k 0 ≡ wordOf (f (i + k))
+unfolding entryWords entriesBy
+word-by f i zero k h = absurd (omega arith)
+word-by f i (suc n) zero h = rw (add-zero i)
+word-by f i (suc n) (suc k) h =
+    let e : i + 1 + k ≡ i + suc k = omega arith in
+    word-by f (i + 1) n k (omega arith) ∙ ap (λ (j : ℕ). wordOf (f j)) e
+
+module _ (b old : List ℕ) where
+  front : List ℕ
+  front = length b / (argumentBytes + 1) ∷ 0 ∷ entryWords (entries argumentBytes b)
+
+  length-front : length front ≡ 2 + length b / (argumentBytes + 1)
+  unfolding front
+  length-front = omega (arith, length-words (entries argumentBytes b), length-read argumentBytes b)
+
+  zeros : List ℕ
+  zeros = replicate (cellsNeeded b) 0
+
+  split : wordsOpened b old ≡ front ++ (zeros ++ drop (wordsNeeded b) old)
+  unfolding wordsOpened front zeros
+  split = refl
+
+  length-filled : length (front ++ zeros) ≡ wordsNeeded b
+  unfolding wordsNeeded zeros
+  length-filled = omega (arith, length-append front zeros, length-front, length-replicate {A = ℕ} (cellsNeeded b) 0)
+
+  whole : wordsOpened b old ≡ (front ++ zeros) ++ drop (wordsNeeded b) old
+  whole = split ∙ sym (append-assoc front zeros (drop (wordsNeeded b) old))
+
+  pub opened-count : getD (wordsOpened b old) 0 0 ≡ length b / (argumentBytes + 1)
+  unfolding wordsOpened
+  opened-count = refl
+
+  pub opened-next : getD (wordsOpened b old) 1 0 ≡ 0
+  unfolding wordsOpened
+  opened-next = refl
+
+  pub opened-entry : (i : ℕ) → i < length b / (argumentBytes + 1) → getD (wordsOpened b old) (2 + i) 0 ≡ wordOf (entryAt argumentBytes b i)
+  unfolding wordsOpened entries
+  opened-entry i h =
+      let n : ℕ = length b / (argumentBytes + 1) in
+      let ws : List ℕ = entryWords (entriesBy (entryAt argumentBytes b) 0 n) in
+      let l : i < length ws = omega (arith, length-words (entriesBy (entryAt argumentBytes b) 0 n), length-by (entryAt argumentBytes b) 0 n) in
+      let z : 0 + i ≡ i = omega arith in
+      sym (getD-drop 2 (wordsOpened b old) i 0)
+      ∙ List·getD-append ws (replicate (cellsNeeded b) 0 ++ drop (wordsNeeded b) old) 0 i l
+      ∙ word-by (entryAt argumentBytes b) 0 n i h
+      ∙ ap (λ (j : ℕ). wordOf (entryAt argumentBytes b j)) z
+
+  pub opened-zero : (j : ℕ) → j < cellsNeeded b → getD (wordsOpened b old) (2 + length b / (argumentBytes + 1) + j) 0 ≡ 0
+  unfolding zeros
+  opened-zero j h =
+      rw (split, ← length-front)
+      (getD-append-add front (zeros ++ drop (wordsNeeded b) old) j 0
+      ∙ List·getD-append zeros (drop (wordsNeeded b) old) 0 j (omega (arith, length-replicate {A = ℕ} (cellsNeeded b) 0))
+      ∙ getD-replicate (cellsNeeded b) j 0 0 h)
+
+  -- the words beyond are as they were
+  pub opened-beyond : drop (wordsNeeded b) (wordsOpened b old) ≡ drop (wordsNeeded b) old
+  opened-beyond = ap (drop (wordsNeeded b)) whole ∙ drop-at (front ++ zeros) (drop (wordsNeeded b) old) (wordsNeeded b) length-filled
+
+  pub length-opened : wordsNeeded b ≤ length old → length (wordsOpened b old) ≡ length old
+  length-opened h =
+      ap length whole
+      ∙ omega (arith, length-append (front ++ zeros) (drop (wordsNeeded b) old), length-filled, length-drop (wordsNeeded b) old)

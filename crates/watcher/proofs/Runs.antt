@@ -1,15 +1,11 @@
 -- What a walk finds at each entry: its operands on the stack, its cell's words ahead, and a stack that stays low, with few possible starts.
 -- Proved once, for the entries of a tree. Assumes nothing.
 use Prim.Native.Nat.{ℕ, suc, _+_, _-_, _≤_, _<_, _^_}
-use mathlib.Core.Path.{_≡_, refl, subst}
-use mathlib.Core.Bool.{Bool, true, false, cond}
+use mathlib.Core.Path.{_≡_, subst}
 use mathlib.Core.List.{List, [], _∷_, _++_, append-assoc, append-nil}
-use mathlib.Core.Option.{Option, none, some}
 use native.Mathlib.Nat.{sub-zero}
 use native.Mathlib.Omega.{arith}
-use lib.Dec.{leb, eqb}
 use lib.ListN.{length, getD, drop, length-append}
-use borrow.Author.Tests.{eqb-true}
 use Rattle.rules.specs.declared.Op.{Op}
 use Rattle.rules.specs.declared.Op.the-variants.{Either, Both, Without, Chain}
 use Rattle.rules.specs.Limits.{letters, argumentBytes, mostEntries}
@@ -23,14 +19,11 @@ use Rattle.detector.proofs.Form.{answer-le}
 use Rattle.body.specs.declared.Entry.{Entry}
 use Rattle.body.specs.declared.Entry.the-variants.{Letter, Pair, Within, Wrong}
 use Rattle.body.specs.Entry.{entriesBy}
-use Rattle.body.specs.declared.Depth.the-variants.{Lacks, To}
 use Rattle.body.specs.Postfix.{postfix}
-use Rattle.body.specs.Check.{onDepth, depthOf, scan}
 use Rattle.body.specs.Machine.{step, run}
 use Rattle.body.proofs.Scan.{left-suc}
-use Rattle.body.proofs.Walk.{Rest}
 use Rattle.body.proofs.Bodies.{length-by}
-use Rattle.cell.specs.Cell.{cellWords, possible}
+use Rattle.cell.specs.Cell.{cellWords}
 use Rattle.watcher.specs.State.{cells, InForm}
 use Rattle.watcher.specs.Walk.{Value, Cells, entryIn, tickM, ticked}
 use Rattle.watcher.proofs.Cells.{left, right, own, cells-ahead, form-left, form-right, length-own}
@@ -198,35 +191,3 @@ pub stands-few : (t n i : ℕ) (st : List Value) → Stands t i (n - i) st → i
 unfolding startsOn
 stands-few t n i [] d h k = omega arith
 stands-few t n i (v ∷ st) d h k = omega (arith, d .few)
-
--- the same of any walk over entries that break no rule: with d trees at entry i of n, at most n - i + 1
-not-none : {A : Type 0} (i : ℕ) → _≡_ {A = Option ℕ} (some i) none → A
-not-none i q = let z : _≡_ {A = ℕ} 0 1 = cc in absurd (omega arith)
-
-one-left : (t : Bool) (i : ℕ) → cond t none (some i) ≡ none → t ≡ true
-one-left true i q = refl
-one-left false i q = not-none i q
-
-finds : (t : Bool) (e i : ℕ) (go : ℕ → Option ℕ) → onDepth (cond t (To e) Lacks) (some i) go ≡ none → (t ≡ true) × (go e ≡ none)
-finds true e i go q = (refl, q)
-finds false e i go q = not-none i q
-
-scan-depth : (ss : List Entry) (i d : ℕ) → scan ss i d ≡ none → d ≤ length ss + 1
-unfolding scan depthOf
-scan-depth [] i d q = omega (arith, eqb-true d 1 (one-left (eqb d 1) i q))
-scan-depth (Letter n ∷ ss) i d q = omega (arith, scan-depth ss (i + 1) (d + 1) q)
-scan-depth (Pair op ∷ ss) i d q =
-    omega (arith, scan-depth ss (i + 1) (d - 1) (finds (leb 2 d) (d - 1) i (λ e. scan ss (i + 1) e) q .1))
-scan-depth (Within n ∷ ss) i d q = omega (arith, scan-depth ss (i + 1) d (finds (leb 1 d) d i (λ e. scan ss (i + 1) e) q .1))
-scan-depth (Wrong ∷ ss) i d q = not-none i q
-
-pub rest-depth : (f : ℕ → Entry) (n i d : ℕ) → Rest f n i d → d ≤ n - i + 1
-rest-depth f n i d r = rw (length-by f i (n - i)) at (scan-depth (entriesBy f i (n - i)) i d r)
-
--- and an operator adds at most two possible starts
-pub possible-le : (op : Op) (x y : ℕ) → possible op x y ≤ x + y + 2
-unfolding possible
-possible-le Either x y = omega arith
-possible-le Both x y = omega arith
-possible-le Without x y = omega arith
-possible-le Chain x y = omega arith

@@ -76,12 +76,15 @@ abbrev pub isNone : Option ℕ → Bool
 isNone none = true
 isNone (some i) = false
 
+-- the words beyond the cells of a state, or none if a cell is not in form
+unfoldable pub judged : List ℕ → Option (List ℕ)
+judged s = run (judgeM (getD s 1 0)) (entriesBy (entryIn s) 0 (getD s 0 0)) [] (some (drop (2 + getD s 0 0) s)) .1
+
 -- the state is in form, computed: the number of entries, their words, a sound body, the next tick, and every cell
 unfoldable pub formed : List ℕ → Bool
 formed s =
     cond (leb 1 (getD s 0 0)) (cond (leb (getD s 0 0) mostEntries) (cond (leb (2 + getD s 0 0) (length s))
-    (cond (isNone (scan (entriesBy (entryIn s) 0 (getD s 0 0)) 0 0)) (cond (leb (getD s 1 0) ticks)
-    (isSome (run (judgeM (getD s 1 0)) (entriesBy (entryIn s) 0 (getD s 0 0)) [] (some (drop (2 + getD s 0 0) s)) .1)) false) false) false) false) false
+    (cond (isNone (scan (entriesBy (entryIn s) 0 (getD s 0 0)) 0 0)) (cond (leb (getD s 1 0) ticks) (isSome (judged s)) false) false) false) false) false
 
 -- on the stack: an answer, and the possible starts, as many as p
 abbrev pub Value : Type 0
