@@ -1,11 +1,13 @@
 -- What the words of a cell come to, once its operator is known. Assumes nothing.
 use mathlib.Core.Path.{_≡_, ap, _∙_}
+use mathlib.Core.List.{List}
 use Prim.Native.Nat.{ℕ, _+_, _*_}
 use native.Mathlib.Omega.{arith}
+use lib.ListN.{length}
 use Rattle.rules.specs.declared.Op.{Op}
 use Rattle.rules.specs.declared.Op.the-variants.{Both, Without, Chain}
 use Rattle.cell.specs.Cell.{cellWords}
-use Rattle.cell.specs.Calls.{Sized, Paired}
+use Rattle.cell.specs.Calls.{Sized, Paired, StepReady}
 
 module _ {op : Op} {n : ℕ} (h : Sized op n) where
   words-as : {o : Op} → op ≡ o → n ≡ cellWords o (h .right)
@@ -23,4 +25,22 @@ module _ {op : Op} {n : ℕ} (h : Sized op n) where
   unfolding cellWords
   chain-words e =
       let k : n ≡ 2 * (1 + h .right) = words-as e in
+      record { some = omega arith; even = omega arith }
+
+module _ {t : ℕ} {ys c : List ℕ} where
+  pub both-length : StepReady Both t ys c → length c ≡ 4
+  unfolding cellWords
+  both-length r = r .words
+
+  pub without-length : StepReady Without t ys c → length c ≡ 1
+  unfolding cellWords
+  without-length r = r .words
+
+  pub chain-length : StepReady Chain t ys c → length c ≡ 2 * (1 + length ys)
+  unfolding cellWords
+  chain-length r = r .words
+
+  pub chain-paired : StepReady Chain t ys c → Paired (length c)
+  chain-paired r =
+      let k = chain-length r in
       record { some = omega arith; even = omega arith }
