@@ -1,7 +1,7 @@
 -- Pairs counted, chosen and put in their places among others, one turn at a time. Assumes nothing.
 use mathlib.Core.Path.{_≡_, refl, sym, ap, ap₂, _∙_, subst}
 use mathlib.Core.List.{List, [], _∷_, _++_, append-assoc, append-nil}
-use Prim.Native.Nat.{ℕ, zero, suc, _+_, _-_, _*_, _%_, _≤_, _<_}
+use Prim.Native.Nat.{ℕ, _+_, _-_, _*_, _≤_, _<_}
 use native.Mathlib.Nat.{sub-zero}
 use native.Mathlib.Decide.{decLt}
 use native.Mathlib.Omega.{arith}
@@ -15,10 +15,10 @@ use Rattle.detector.specs.Form.{Sorted}
 use Rattle.detector.proofs.Order.{gather-sorted}
 use Rattle.cell.specs.Words.{spanAt, keptOf}
 use Rattle.cell.specs.Cell.{pairsOf}
-use Rattle.cell.specs.Pairs.{spansFrom, putSpan}
-use Rattle.cell.specs.Calls.{Paired, PairsIn, InsertReady, Grown}
-use Rattle.cell.proofs.Pairs.{drop-one, spans-first, spans-end, spans-last, spans-split, spans-put-low, spans-put-high, span-put, spans-put, length-put}
-use Rattle.cell.proofs.Pairs.{kept-end, kept-stop, kept-more}
+use Rattle.cell.specs.Pairs.{spansFrom}
+use Rattle.cell.specs.Calls.{PairsIn, InsertReady, Grown}
+use Rattle.cell.proofs.Pairs.{drop-one, spans-first, spans-end, spans-last}
+use Rattle.cell.proofs.Pairs.{kept-more}
 
 -- ---- counted
 

@@ -1,11 +1,11 @@
 -- A pair put in its place by carrying: each later pair moves up by one. Where starts rise strictly this is `insert`. Assumes nothing.
 use mathlib.Core.Path.{_≡_, refl, sym, ap, ap₂, _∙_, subst}
 use mathlib.Core.List.{List, [], _∷_, _++_, append-assoc}
-use Prim.Native.Nat.{ℕ, zero, suc, _+_, _-_, _*_, _≤_, _<_}
+use Prim.Native.Nat.{ℕ, _+_, _-_, _*_, _≤_, _<_}
 use native.Mathlib.Nat.{sub-zero}
 use native.Mathlib.Decide.{decLt}
 use native.Mathlib.Omega.{arith}
-use lib.ListN.{length, drop, getD}
+use lib.ListN.{length}
 use Rattle.rules.specs.Decisions.{pick}
 use Rattle.rules.proofs.Decisions.{pick-yes, pick-no}
 use Rattle.detector.specs.Memory.{Span}
@@ -53,12 +53,12 @@ pub record Carrying (whole : List Span) (s₀ : List ℕ) (n : ℕ) (s : List �
 pub carry-start : (s : List ℕ) (n : ℕ) (p : Span) → InsertReady s n → Carrying (insert p (spansFrom s 0 n)) s n s 0 p
 unfolding spansFrom
 carry-start s n p r =
-    record
-      { within = omega arith
-      ; kept-length = refl
-      ; sorted = rw sub-zero (r .sorted)
-      ; same = rw sub-zero refl
-      }
+    record {
+      within = omega arith;
+      kept-length = refl;
+      sorted = rw sub-zero (r .sorted);
+      same = rw sub-zero refl;
+    }
 
 -- the pairs after pair i
 abbrev rest : List ℕ → ℕ → ℕ → List Span
@@ -78,16 +78,16 @@ module _ {whole : List Span} {s₀ : List ℕ} {n : ℕ} {s : List ℕ} {i : ℕ
       → Carrying whole s₀ n (putSpan s (2 * i) p) (i + 1) (spanAt s (2 * i))
   later-here h l lt =
       let low = spans-put-low s i (n - (i + 1)) p in
-      record
-        { within = omega arith
-        ; kept-length = length-put s (2 * i) p ∙ c .kept-length
-        ; sorted = subst (Sorted 0) (sym low) (sorted-lower _ (rest s n i) (sorted-rest h))
-        ; same =
-              ap₂ (λ (a b : List Span). a ++ insert (spanAt s (2 * i)) b) (spans-put s i p l) low
-              ∙ append-assoc (spansFrom s 0 i) (p ∷ []) (insert (spanAt s (2 * i)) (rest s n i))
-              ∙ ap (λ (a : List Span). spansFrom s 0 i ++ (p ∷ a)) (insert-first (spanAt s (2 * i)) (rest s n i) (sorted-rest h))
-              ∙ ap (λ (a : List Span). spansFrom s 0 i ++ a) (sym (insert-before p (spanAt s (2 * i)) (rest s n i) lt)) ∙ same-here h
-        }
+      record {
+        within = omega arith;
+        kept-length = length-put s (2 * i) p ∙ c .kept-length;
+        sorted = subst (Sorted 0) (sym low) (sorted-lower _ (rest s n i) (sorted-rest h));
+        same =
+            ap₂ (λ (a b : List Span). a ++ insert (spanAt s (2 * i)) b) (spans-put s i p l) low
+            ∙ append-assoc (spansFrom s 0 i) (p ∷ []) (insert (spanAt s (2 * i)) (rest s n i))
+            ∙ ap (λ (a : List Span). spansFrom s 0 i ++ (p ∷ a)) (insert-first (spanAt s (2 * i)) (rest s n i) (sorted-rest h))
+            ∙ ap (λ (a : List Span). spansFrom s 0 i ++ a) (sym (insert-before p (spanAt s (2 * i)) (rest s n i) lt)) ∙ same-here h;
+      }
 
   -- the one here starts later: it is carried on
   pub carry-later :
@@ -97,15 +97,15 @@ module _ {whole : List Span} {s₀ : List ℕ} {n : ℕ} {s : List ℕ} {i : ℕ
 
   past-here : (h : i < n) → spanAt s (2 * i) .start < p .start → Carrying whole s₀ n s (i + 1) p
   past-here h lt =
-      record
-        { within = omega arith
-        ; kept-length = c .kept-length
-        ; sorted = sorted-lower _ (rest s n i) (sorted-rest h)
-        ; same =
-              ap (λ (a : List Span). a ++ insert p (rest s n i)) (spans-last s i)
-              ∙ append-assoc (spansFrom s 0 i) (spanAt s (2 * i) ∷ []) (insert p (rest s n i))
-              ∙ ap (λ (a : List Span). spansFrom s 0 i ++ a) (sym (insert-beyond p (spanAt s (2 * i)) (rest s n i) lt)) ∙ same-here h
-        }
+      record {
+        within = omega arith;
+        kept-length = c .kept-length;
+        sorted = sorted-lower _ (rest s n i) (sorted-rest h);
+        same =
+            ap (λ (a : List Span). a ++ insert p (rest s n i)) (spans-last s i)
+            ∙ append-assoc (spansFrom s 0 i) (spanAt s (2 * i) ∷ []) (insert p (rest s n i))
+            ∙ ap (λ (a : List Span). spansFrom s 0 i ++ a) (sym (insert-beyond p (spanAt s (2 * i)) (rest s n i) lt)) ∙ same-here h;
+      }
 
   -- the one here starts earlier: it stays
   pub carry-past : (q : Span) → i < n → q ≡ spanAt s (2 * i) → (p .start ≡ q .start → ⊥) → q .start ≤ p .start → Carrying whole s₀ n s (i + 1) p
@@ -117,14 +117,14 @@ module _ {whole : List Span} {s₀ : List ℕ} {n : ℕ} {s : List ℕ} {i : ℕ
   met-here h l e =
       let q : Span = better p (spanAt s (2 * i)) in
       let s′ : List ℕ = putSpan s (2 * i) q in
-      record
-        { pairs =
-              spans-split s′ n i (omega arith)
-              ∙ ap₂ (λ (a b : List Span). a ++ b) (spans-put-high s i q)
-                (spans-first s′ n i h ∙ ap₂ (λ (a : Span) (b : List Span). a ∷ b) (span-put s (2 * i) q l) (spans-put-low s i (n - (i + 1)) q))
-              ∙ ap (λ (a : List Span). spansFrom s 0 i ++ a) (sym (insert-same p (spanAt s (2 * i)) (rest s n i) e)) ∙ same-here h
-        ; most = omega arith
-        }
+      record {
+        pairs =
+            spans-split s′ n i (omega arith)
+            ∙ ap₂ (λ (a b : List Span). a ++ b) (spans-put-high s i q)
+            (spans-first s′ n i h ∙ ap₂ (λ (a : Span) (b : List Span). a ∷ b) (span-put s (2 * i) q l) (spans-put-low s i (n - (i + 1)) q))
+            ∙ ap (λ (a : List Span). spansFrom s 0 i ++ a) (sym (insert-same p (spanAt s (2 * i)) (rest s n i) e)) ∙ same-here h;
+        most = omega arith;
+      }
 
   -- both start together: the better one stays, and nothing moves
   pub carry-met :
@@ -137,9 +137,9 @@ module _ {whole : List Span} {s₀ : List ℕ} {n : ℕ} {s : List ℕ} {i : ℕ
   unfolding insert
   carry-end s′ h l w =
       let e : i ≡ n = omega (arith, c .within) in
-      record
-        { pairs =
-              ap (λ (z : List ℕ). spansFrom z 0 (n + 1)) w ∙ spans-put s n p l ∙ ap (λ (k : ℕ). spansFrom s 0 k ++ (p ∷ [])) (sym e)
-              ∙ ap (λ (a : List Span). spansFrom s 0 i ++ insert p a) (sym (spans-end s n i h)) ∙ c .same
-        ; most = omega arith
-        }
+      record {
+        pairs =
+            ap (λ (z : List ℕ). spansFrom z 0 (n + 1)) w ∙ spans-put s n p l ∙ ap (λ (k : ℕ). spansFrom s 0 k ++ (p ∷ [])) (sym e)
+            ∙ ap (λ (a : List Span). spansFrom s 0 i ++ insert p a) (sym (spans-end s n i h)) ∙ c .same;
+        most = omega arith;
+      }

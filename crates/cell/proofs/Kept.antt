@@ -1,6 +1,6 @@
 -- Pairs gathered elsewhere, put over the kept pairs of a cell word by word. Assumes nothing.
 use mathlib.Core.Path.{_≡_, refl, sym, ap, ap₂, _∙_}
-use mathlib.Core.List.{List, [], _∷_, _++_, append-nil, append-assoc}
+use mathlib.Core.List.{List, [], _∷_, _++_, append-nil}
 use Prim.Native.Nat.{ℕ, zero, suc, _+_, _-_, _*_, _/_, _≤_, _<_}
 use native.Mathlib.Nat.{add-zero}
 use native.Mathlib.Decide.{decLt}
@@ -9,12 +9,11 @@ use native.Mathlib.Numerals.{add-one}
 use lib.ListN.{length, take, drop, getD, set, drop-of-length-le}
 use lib.Seq.{paste, paste-suc, take-all}
 use Rattle.rules.specs.Decisions.{pick}
-use Rattle.rules.proofs.Decisions.{pick-yes, pick-no}
 use Rattle.detector.specs.Memory.{Span}
 use Rattle.detector.specs.Choice.{gather}
 use Rattle.cell.specs.Words.{keptWords}
 use Rattle.cell.specs.Pairs.{spansFrom}
-use Rattle.cell.specs.Calls.{Paired, StoreReady, Gathered, KeepReady, keptAfter}
+use Rattle.cell.specs.Calls.{StoreReady, newWords, Gathered, KeepReady, keptAfter}
 use Rattle.cell.proofs.Words.{length-kept-words}
 
 word-in : (n m : ℕ) (s : List ℕ) (at i : ℕ) → m ≤ n → i < 2 * m → getD (keptWords n (spansFrom s at m)) i 0 ≡ getD s (at + i) 0
@@ -45,10 +44,6 @@ kept-word n m s i h = go (decLt i (2 * m))
         let e : 0 + i ≡ i = omega arith in
         word-in n m s 0 i h k ∙ ap (λ (z : ℕ). getD s z 0) e
     go (no k) = word-out n m s 0 i (omega arith)
-
--- the words that go over the kept pairs of c
-abbrev pub newWords : List ℕ → List ℕ → ℕ → List ℕ
-newWords c kept n = keptWords (length c / 2 - 1) (spansFrom kept 0 n)
 
 module _ (c kept : List ℕ) (n : ℕ) (r : StoreReady c kept n) where
   length-new : length (newWords c kept n) + 2 ≡ length c

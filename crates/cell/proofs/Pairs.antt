@@ -1,14 +1,12 @@
 -- Words two by two, and pairs that stand one after the other: read from either end, and kept by a store elsewhere. Assumes nothing.
-use mathlib.Core.Path.{_≡_, refl, sym, ap, ap₂, _∙_}
-use mathlib.Core.List.{List, [], _∷_, _++_, append-assoc}
-use Prim.Native.Nat.{ℕ, zero, suc, _+_, _-_, _*_, _%_, _≤_, _<_}
-use native.Mathlib.Nat.{add-zero}
+use mathlib.Core.Path.{_≡_, refl, ap, ap₂, _∙_}
+use mathlib.Core.List.{List, [], _∷_, _++_}
+use Prim.Native.Nat.{ℕ, zero, suc, _+_, _-_, _*_, _≤_, _<_}
 use native.Mathlib.Decide.{ℕ-discrete}
 use native.Mathlib.Omega.{arith}
 use native.Mathlib.Numerals.{add-one}
 use lib.ListN.{length, drop, getD, set, length-set, drop-of-length-le}
 use lib.Seq.{drop-cons, getD-set-same, getD-set-other}
-use Rattle.rules.specs.Decisions.{pick}
 use Rattle.rules.proofs.Decisions.{pick-yes, pick-no}
 use Rattle.detector.specs.Memory.{Span}
 use Rattle.cell.specs.Words.{spanAt, keptOf}
@@ -90,13 +88,15 @@ spans-set-low : (c : List ℕ) (j v at n : ℕ) → j < at → spansFrom (set c 
 unfolding spansFrom
 spans-set-low c j v at zero h = refl
 spans-set-low c j v at (suc n) h =
-    ap₂ (λ (q : Span) (l : List Span). q ∷ l) (span-other c j v at (λ e. omega arith) (λ e. omega arith)) (spans-set-low c j v (at + 2) n (omega arith))
+    ap₂ (λ (q : Span) (l : List Span). q ∷ l) (span-other c j v at (λ e. omega arith) (λ e. omega arith))
+    (spans-set-low c j v (at + 2) n (omega arith))
 
 spans-set-high : (c : List ℕ) (j v at n : ℕ) → at + 2 * n ≤ j → spansFrom (set c j v) at n ≡ spansFrom c at n
 unfolding spansFrom
 spans-set-high c j v at zero h = refl
 spans-set-high c j v at (suc n) h =
-    ap₂ (λ (q : Span) (l : List Span). q ∷ l) (span-other c j v at (λ e. omega arith) (λ e. omega arith)) (spans-set-high c j v (at + 2) n (omega arith))
+    ap₂ (λ (q : Span) (l : List Span). q ∷ l) (span-other c j v at (λ e. omega arith) (λ e. omega arith))
+    (spans-set-high c j v (at + 2) n (omega arith))
 
 -- the pairs before it are kept, and those after it
 pub spans-put-low : (c : List ℕ) (i n : ℕ) (q : Span) → spansFrom (putSpan c (2 * i) q) (2 * (i + 1)) n ≡ spansFrom c (2 * (i + 1)) n
@@ -113,8 +113,11 @@ pub span-put : (c : List ℕ) (at : ℕ) (q : Span) → at + 1 < length c → sp
 span-put c at q h =
     let d : at ≡ at + 1 → ⊥ = λ e. omega arith in
     let l : at + 1 < length (set c at (q .start)) = simp length-set (omega arith) in
-    rw (getD-set-other (set c at (q .start)) (at + 1) at (q .end) 0 d, getD-set-same c at (q .start) 0 (omega arith)
-    , getD-set-same (set c at (q .start)) (at + 1) (q .end) 0 l)
+    rw (
+      getD-set-other (set c at (q .start)) (at + 1) at (q .end) 0 d,
+      getD-set-same c at (q .start) 0 (omega arith),
+      getD-set-same (set c at (q .start)) (at + 1) (q .end) 0 l,
+    )
 
 -- the first i + 1 after a store at pair i
 pub spans-put : (c : List ℕ) (i : ℕ) (q : Span) → 2 * i + 1 < length c → spansFrom (putSpan c (2 * i) q) 0 (i + 1) ≡ spansFrom c 0 i ++ (q ∷ [])

@@ -27,20 +27,5 @@ module _ {op : Op} {n : ℕ} (h : Sized op n) where
       let k : n ≡ 2 * (1 + h .right) = words-as e in
       record { some = omega arith; even = omega arith }
 
-module _ {t : ℕ} {ys c : List ℕ} where
-  pub both-length : StepReady Both t ys c → length c ≡ 4
-  unfolding cellWords
-  both-length r = r .words
-
-  pub without-length : StepReady Without t ys c → length c ≡ 1
-  unfolding cellWords
-  without-length r = r .words
-
-  pub chain-length : StepReady Chain t ys c → length c ≡ 2 * (1 + length ys)
-  unfolding cellWords
-  chain-length r = r .words
-
-  pub chain-paired : StepReady Chain t ys c → Paired (length c)
-  chain-paired r =
-      let k = chain-length r in
-      record { some = omega arith; even = omega arith }
+pub step-sized : {op : Op} {t : ℕ} {ys c : List ℕ} → StepReady op t ys c → Sized op (length c)
+step-sized {ys = ys} r = record { right = length ys; words = r .words }

@@ -1,19 +1,18 @@
 -- What a tick makes of a cell, put together from its parts. Assumes nothing.
 use mathlib.Core.Path.{_≡_, refl, sym, ap, _∙_}
-use mathlib.Core.List.{List, [], _∷_, _++_}
-use Prim.Native.Nat.{ℕ, suc, _+_, _*_, _≤_, _<_, min, max}
+use mathlib.Core.List.{List, [], _∷_}
+use Prim.Native.Nat.{ℕ, suc, _+_, _≤_, _<_, min, max}
 use native.Mathlib.Decide.{decLt}
 use native.Mathlib.Omega.{arith}
 use native.Mathlib.Numerals.{add-one}
 use lib.ListN.{length, getD, set}
 use lib.Seq.{set-getD}
 use Rattle.rules.specs.declared.Op.the-variants.{Either, Both, Without, Chain}
-use Rattle.rules.specs.Decisions.{pick}
 use Rattle.rules.proofs.Decisions.{pick-yes, pick-no}
 use Rattle.detector.specs.Memory.{Span}
-use Rattle.detector.specs.Choice.{choose, gather}
+use Rattle.detector.specs.Choice.{choose}
 use Rattle.detector.specs.Step.{later}
-use Rattle.cell.specs.Words.{spanAt, spanWords, keptWords}
+use Rattle.cell.specs.Words.{spanAt}
 use Rattle.cell.specs.Cell.{pairsOf, cellAnswer, cellAfter}
 use Rattle.cell.specs.Pairs.{putSpan}
 use Rattle.cell.specs.Calls.{Stepped, Renewed, keptAfter}
@@ -24,22 +23,22 @@ module _ (c : List ℕ) (at a t : ℕ) where
   renew-later h =
       let q : Span = record { start = a; end = suc t } in
       let e : later (spanAt c at) a t ≡ q = pick-yes (decLt (getD c at 0) a) q (spanAt c at) h in
-      record
-        { start = ap (λ (k : Span). k .start) (sym e)
-        ; words = ap (λ (k : ℕ). set (set c at a) (at + 1) k) (add-one t) ∙ ap (putSpan c at) (sym e)
-        }
+      record {
+        start = ap (λ (k : Span). k .start) (sym e);
+        words = ap (λ (k : ℕ). set (set c at a) (at + 1) k) (add-one t) ∙ ap (putSpan c at) (sym e);
+      }
 
   pub renew-not : a ≤ getD c at 0 → Renewed c at a t c (getD c at 0)
   unfolding later
   renew-not h =
       let q : Span = record { start = a; end = suc t } in
       let e : later (spanAt c at) a t ≡ spanAt c at = pick-no (decLt (getD c at 0) a) q (spanAt c at) (λ k. omega arith) in
-      record
-        { start = ap (λ (k : Span). k .start) (sym e)
-        ; words =
-              sym (set-getD c (at + 1) 0) ∙ ap (λ (l : List ℕ). set l (at + 1) (getD c (at + 1) 0)) (sym (set-getD c at 0))
-              ∙ ap (putSpan c at) (sym e)
-        }
+      record {
+        start = ap (λ (k : Span). k .start) (sym e);
+        words =
+            sym (set-getD c (at + 1) 0) ∙ ap (λ (l : List ℕ). set l (at + 1) (getD c (at + 1) 0)) (sym (set-getD c at 0))
+            ∙ ap (putSpan c at) (sym e);
+      }
 
 -- `+`: left and right renewed
 pub both-stepped :
@@ -48,11 +47,11 @@ pub both-stepped :
 unfolding cellAnswer cellAfter
 both-stepped t x y ys (a ∷ b ∷ d ∷ e ∷ []) c₁ c₂ left right r n l k h =
     let s : right ≡ later (record { start = d; end = e }) y t .start =
-        k .start ∙ ap (λ (z : List ℕ). later (spanAt z 2) y t .start) (l .words) in
-    record
-      { answer = rw (← s, ← l .start) h
-      ; after = k .words ∙ ap (λ (z : List ℕ). putSpan z 2 (later (spanAt z 2) y t)) (l .words)
-      }
+    k .start ∙ ap (λ (z : List ℕ). later (spanAt z 2) y t .start) (l .words) in
+    record {
+      answer = rw (← s, ← l .start) h;
+      after = k .words ∙ ap (λ (z : List ℕ). putSpan z 2 (later (spanAt z 2) y t)) (l .words);
+    }
 both-stepped t x y ys [] c₁ c₂ left right r n l k h = absurd (omega arith)
 both-stepped t x y ys (a ∷ []) c₁ c₂ left right r n l k h = absurd (omega arith)
 both-stepped t x y ys (a ∷ b ∷ []) c₁ c₂ left right r n l k h = absurd (omega arith)
@@ -69,18 +68,18 @@ module _ (t x y : ℕ) (ys c : List ℕ) (seen : ℕ) (n : length c ≡ 1) (s : 
   pub without-stands : seen < x → Stepped Without t x y ys c (set c 0 seen) x
   unfolding cellAnswer cellAfter
   without-stands h =
-      record
-        { answer = sym (pick-yes (decLt (max (getD c 0 0) y) x) x 0 (omega arith))
-        ; after = one-word c seen n ∙ ap (λ (k : ℕ). k ∷ []) s
-        }
+      record {
+        answer = sym (pick-yes (decLt (max (getD c 0 0) y) x) x 0 (omega arith));
+        after = one-word c seen n ∙ ap (λ (k : ℕ). k ∷ []) s;
+      }
 
   pub without-falls : x ≤ seen → Stepped Without t x y ys c (set c 0 seen) 0
   unfolding cellAnswer cellAfter
   without-falls h =
-      record
-        { answer = sym (pick-no (decLt (max (getD c 0 0) y) x) x 0 (λ k. omega arith))
-        ; after = one-word c seen n ∙ ap (λ (k : ℕ). k ∷ []) s
-        }
+      record {
+        answer = sym (pick-no (decLt (max (getD c 0 0) y) x) x 0 (λ k. omega arith));
+        after = one-word c seen n ∙ ap (λ (k : ℕ). k ∷ []) s;
+      }
 
 -- `;`: the kept pairs, and only then latest
 pub chain-stepped :
@@ -88,10 +87,10 @@ pub chain-stepped :
     → r ≡ choose (pairsOf c) y .start → Stepped Chain t x y ys c c₂ r
 unfolding cellAnswer cellAfter
 chain-stepped t x y ys (a ∷ b ∷ l) c₁ c₂ start r n k h e =
-    record
-      { answer = e
-      ; after = h .words ∙ ap (λ (z : List ℕ). putSpan z 0 (later (spanAt z 0) x t)) k
-      }
+    record {
+      answer = e;
+      after = h .words ∙ ap (λ (z : List ℕ). putSpan z 0 (later (spanAt z 0) x t)) k;
+    }
 chain-stepped t x y ys [] c₁ c₂ start r n k h e = absurd (omega arith)
 chain-stepped t x y ys (a ∷ []) c₁ c₂ start r n k h e = absurd (omega arith)
 

@@ -1,7 +1,7 @@
 -- What the functions on a cell require and promise. Assumes nothing: these are definitions.
 use mathlib.Core.Path.{_≡_}
 use mathlib.Core.List.{List, _++_}
-use Prim.Native.Nat.{ℕ, _+_, _*_, _%_, _≤_, _<_}
+use Prim.Native.Nat.{ℕ, _+_, _-_, _*_, _/_, _%_, _≤_, _<_}
 use lib.ListN.{length, take, drop}
 use Rattle.rules.specs.declared.Op.{Op}
 use Rattle.rules.specs.Limits.{ticks}
@@ -69,6 +69,10 @@ pub record StoreReady (c kept : List ℕ) (n : ℕ) : Type 0 where
   pub paired : Paired (length c)
   pub room : 2 * n + 2 ≤ length c
   pub there : 2 * n ≤ length kept
+
+-- these as the new words of the cell's kept pairs
+abbrev pub newWords : List ℕ → List ℕ → ℕ → List ℕ
+newWords c kept n = keptWords (length c / 2 - 1) (spansFrom kept 0 n)
 
 -- the first n pairs of a cell are latest and the kept ones, and it has a kept pair for each of the starts
 pub record KeepReady (c : List ℕ) (n : ℕ) (ys : List ℕ) : Type 0 where

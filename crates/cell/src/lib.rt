@@ -1,25 +1,25 @@
 // The cell of one operator: the words that it keeps between ticks, their form, and what a tick makes of them.
 use rules::Op;
 ghost use mathlib.Core.Path.{_≡_};
-ghost use mathlib.Core.List.{_++_};
-ghost use Prim.Native.Nat.{_+_, _-_, _*_, _/_, _<_, _≤_, min, max};
+ghost use mathlib.Core.List.{List, _++_};
+ghost use Prim.Native.Nat.{ℕ, _+_, _-_, _*_, _/_, _<_, _≤_, min, max};
 ghost use native.Mathlib.Decide.{decLt};
 ghost use lib.ListN.{length, take, drop, getD};
 ghost use Rattle.rules.specs.declared.Op.the-variants.{Both, Without, Chain};
 ghost use Rattle.rules.specs.Decisions.{pick};
 ghost use Rattle.rules.specs.Limits.{ticks};
 ghost use Rattle.detector.specs.Choice.{better, choose, insert, keep};
-ghost use Rattle.cell.specs.Words.{spanAt, keptWords};
+ghost use Rattle.cell.specs.Words.{spanAt};
 ghost use Rattle.cell.specs.Cell.{cellWords, possible};
 ghost use Rattle.cell.specs.Form.{pairFits, allZero, keptFits, cellFits};
 ghost use Rattle.cell.specs.Pairs.{spanOf, spansFrom, putSpan};
 ghost use Rattle.cell.specs.Calls.{Sized, Paired, StepReady, Stepped, Renewed, PairsIn};
-ghost use Rattle.cell.specs.Calls.{InsertReady, Grown, GatherReady, Gathered, StoreReady, KeepReady, keptAfter, PushReady, Pushed};
+ghost use Rattle.cell.specs.Calls.{InsertReady, Grown, GatherReady, Gathered, StoreReady, newWords, KeepReady, keptAfter, PushReady, Pushed};
 
 // A pair: start + 1 and end + 1, or 0 and 0 for none.
-pub struct Pair {
-    pub start: u64,
-    pub end: u64,
+struct Pair {
+    start: u64,
+    end: u64,
 }
 
 // The words of an operator's cell, where its right operand has y possible starts.
@@ -138,23 +138,24 @@ fn all_zero(cell: &[u64], from: usize) -> bool
     true
 }
 
-// Steps a cell at a tick t, from the answers x and y of its operands and the possible starts of the right one after its own step, and gives the answer.
+// Steps a cell at a tick t and gives the answer, from the answers x and y of its operands and the possible starts of the right one.
+// The operands' own steps come first.
 pub fn cell_step(op: Op, cell: &mut [u64], starts: &[u64], x: u64, y: u64, t: u64) -> u64
     requires { ⌜ StepReady op t (now starts) (now cell) ⌝ }
     ensures { λ r. ⌜ Stepped op t x y (now (starts .entry)) (now (cell .entry)) (now (cell .exit)) r ⌝ }
 {
     match op {
         Op::Either => larger(x, y),
-        Op::Both => both_step(cell, starts, x, y, t),
-        Op::Without => without_step(cell, starts, x, y, t),
+        Op::Both => both_step(cell, x, y, t),
+        Op::Without => without_step(cell, x, y),
         Op::Chain => chain_step(cell, starts, x, y, t),
     }
 }
 
 // The greater of min(x, right) and min(left, y), left and right as they become.
-fn both_step(cell: &mut [u64], starts: &[u64], x: u64, y: u64, t: u64) -> u64
-    requires { ⌜ StepReady Both t (now starts) (now cell) ⌝ }
-    ensures { λ r. ⌜ Stepped Both t x y (now (starts .entry)) (now (cell .entry)) (now (cell .exit)) r ⌝ }
+fn both_step(cell: &mut [u64], x: u64, y: u64, t: u64) -> u64
+    requires { ⌜ (length (now cell) ≡ 4) × (t < ticks) ⌝ }
+    ensures { λ r. ⌜ ((ys : List ℕ) → Stepped Both t x y ys (now (cell .entry)) (now (cell .exit)) r) ⌝ }
 {
     let left = renew(cell, 0, x, t);
     let right = renew(cell, 2, y, t);
@@ -162,9 +163,9 @@ fn both_step(cell: &mut [u64], starts: &[u64], x: u64, y: u64, t: u64) -> u64
 }
 
 // The answer of x stands if it starts strictly later than the latest start of y seen.
-fn without_step(cell: &mut [u64], starts: &[u64], x: u64, y: u64, t: u64) -> u64
-    requires { ⌜ StepReady Without t (now starts) (now cell) ⌝ }
-    ensures { λ r. ⌜ Stepped Without t x y (now (starts .entry)) (now (cell .entry)) (now (cell .exit)) r ⌝ }
+fn without_step(cell: &mut [u64], x: u64, y: u64) -> u64
+    requires { ⌜ length (now cell) ≡ 1 ⌝ }
+    ensures { λ r. ⌜ ((t : ℕ) (ys : List ℕ) → Stepped Without t x y ys (now (cell .entry)) (now (cell .exit)) r) ⌝ }
 {
     let seen = larger(cell[0], y);
     cell[0] = seen;
@@ -358,7 +359,7 @@ fn insert_pair(kept: &mut [u64], count: usize, pair: Pair) -> usize
 // The pairs go over the kept pairs of a cell, with zeros after.
 fn store_kept(cell: &mut [u64], kept: &[u64], count: usize)
     requires { ⌜ StoreReady (now cell) (now kept) count ⌝ }
-    ensures { λ _. ⌜ now (cell .exit) ≡ take 2 (now (cell .entry)) ++ keptWords (length (now (cell .entry)) / 2 - 1) (spansFrom (now (kept .entry)) 0 count) ⌝ }
+    ensures { λ _. ⌜ now (cell .exit) ≡ take 2 (now (cell .entry)) ++ newWords (now (cell .entry)) (now (kept .entry)) count ⌝ }
 {
     let mut i: usize = 0;
     while i + 2 < cell.len() {

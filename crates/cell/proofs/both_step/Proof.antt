@@ -1,22 +1,14 @@
 -- `cell::both_step` meets its contract: left and right are renewed one after the other, and do not share words. Assumes nothing.
-use mathlib.Core.Path.{_∙_}
-use native.Mathlib.Omega.{arith}
-use Rattle.cell.proofs.Sizes.{both-length}
 use Rattle.cell.proofs.Steps.{both-stepped}
 use borrow.Author.Needs.{needs}
 use Rattle.cell.proofs.both_step.Statement.{statement}
 use Rattle.cell.proofs.both_step.Tie as tie
 
 renew-requires : tie.Need-renew-requires
-renew-requires c κs =
-    let p = c .before .before .before .pre in
-    (omega (arith, both-length p), p .range)
+renew-requires c κs = search needs
 
 renew-requires-2 : tie.Need-renew-requires-2
-renew-requires-2 c κs =
-    let d = c .before .before .before in
-    let p = d .before .before .before .before .pre in
-    (omega (arith, both-length p, d .renew .kept .0), p .range)
+renew-requires-2 c κs = search needs
 
 lesser-requires : tie.Need-lesser-requires
 lesser-requires c κs = search needs
@@ -32,10 +24,10 @@ same-length c = search needs
 
 returns : tie.Need-returns
 returns c =
+    λ ys.
     let d = c .before .before .before .before .before in
     let k = d .before .before .before .before in
-    let h = k .before .before .before .before in
-    both-stepped _ _ _ _ _ _ _ _ _ _ (both-length (h .pre)) (k .renew .ensures) (d .renew2 .ensures) (cc)
+    both-stepped _ _ _ ys _ _ _ _ _ _ (k .before .before .before .pre .0) (k .renew .ensures) (d .renew2 .ensures) (cc)
 
 pub both-step-spec : {M : Type 1} → statement M
 both-step-spec =

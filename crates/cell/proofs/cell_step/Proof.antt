@@ -1,4 +1,5 @@
--- `cell::cell_step` meets its contract: each arm is the case of `cellAnswer` and `cellAfter`. Assumes nothing.
+-- `cell::cell_step` meets its contract: each arm is the case of `cellAnswer` and `cellAfter`, and finds the words that it steps. Assumes nothing.
+use Rattle.cell.proofs.Sizes.{both-words, without-words, step-sized}
 use Rattle.cell.proofs.Steps.{either-stepped}
 use borrow.Author.Needs.{needs}
 use Rattle.cell.proofs.cell_step.Statement.{statement}
@@ -14,13 +15,15 @@ enum-told-2 : tie.Need-enum-told-2
 enum-told-2 c = search needs
 
 both-step-requires : tie.Need-both-step-requires
-both-step-requires c κs = rw (c .before .enum-told2 .given .1) at (c .before .before .before .before .before .pre)
+both-step-requires c κs =
+    let p = c .before .before .before .before .before .pre in
+    (both-words (step-sized p) (c .before .enum-told2 .given .1), p .range)
 
 enum-told-3 : tie.Need-enum-told-3
 enum-told-3 c = search needs
 
 without-step-requires : tie.Need-without-step-requires
-without-step-requires c κs = rw (c .before .enum-told3 .given .1) at (c .before .before .before .before .before .pre)
+without-step-requires c κs = without-words (step-sized (c .before .before .before .before .before .pre)) (c .before .enum-told3 .given .1)
 
 enum-told-4 : tie.Need-enum-told-4
 enum-told-4 c = search needs
@@ -37,7 +40,7 @@ same-length c = search needs
 returns-2 : tie.Need-returns-2
 returns-2 c =
     let d = c .before .before in
-    rw (d .before .before .enum-told2 .given .1) (d .both-step .ensures)
+    rw (d .before .before .enum-told2 .given .1) (d .both-step .ensures _)
 
 same-length-2 : tie.Need-same-length-2
 same-length-2 c = search needs
@@ -45,7 +48,7 @@ same-length-2 c = search needs
 returns-3 : tie.Need-returns-3
 returns-3 c =
     let d = c .before .before in
-    rw (d .before .before .enum-told3 .given .1) (d .without-step .ensures)
+    rw (d .before .before .enum-told3 .given .1) (d .without-step .ensures _ _)
 
 same-length-3 : tie.Need-same-length-3
 same-length-3 c = search needs

@@ -38,11 +38,11 @@ loop-less c = search needs
 loop-again : tie.Need-loop-again Inv-loop μ-loop
 loop-again c =
     let k = c .before .before .before in
-    let h = k .before .before .args in
-    (
+    let h = k .before .before .args in (
       omega arith,
       c .better-before .ensures
-      ∙ choose-turn (h .cell .now) (h .pairs) (k .loop .i) (h .start) _ _ (omega arith) (omega arith) (c .before .pair-at .ensures) (k .loop .inv .1),
+          ∙ choose-turn (h .cell .now) (h .pairs) (k .loop .i) (h .start) _ _ (omega arith) (omega arith) (c .before .pair-at .ensures)
+          (k .loop .inv .1),
     )
 
 returns : tie.Need-returns Inv-loop μ-loop

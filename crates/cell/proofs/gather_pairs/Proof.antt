@@ -1,7 +1,7 @@
 -- `cell::gather_pairs` meets its contract. The loop's invariant: the pairs kept so far are those gathered for the starts from i on.
 -- Assumes nothing.
 use mathlib.Core.Path.{_≡_, refl, _∙_}
-use Prim.Native.Nat.{_+_, _*_, _-_, _≤_}
+use Prim.Native.Nat.{_+_, _-_, _≤_}
 use native.Mathlib.Omega.{arith}
 use lib.ListN.{length, drop}
 use Rattle.detector.specs.Choice.{gather}
@@ -39,7 +39,8 @@ keep-pair-requires : tie.Need-keep-pair-requires Inv-loop μ-loop
 keep-pair-requires c κs =
     let k = c .before .before .before .before in
     let h = k .before .before .before .before .args in
-    insert-ready (k .loop .kept) (k .loop .count) (spansFrom (h .cell .now) 0 (h .pairs)) (drop (k .loop .i) (h .starts .now)) (omega arith) (k .loop .inv .2)
+    insert-ready (k .loop .kept) (k .loop .count) (spansFrom (h .cell .now) 0 (h .pairs)) (drop (k .loop .i) (h .starts .now)) (omega arith)
+    (k .loop .inv .2)
 
 loop-less : tie.Need-loop-less Inv-loop μ-loop
 loop-less c = search needs
@@ -48,13 +49,12 @@ loop-again : tie.Need-loop-again Inv-loop μ-loop
 loop-again c =
     let d = c .before .before in
     let k = d .before .before .before .before .before in
-    let h = k .before .before .before .before .args in
-    (
+    let h = k .before .before .before .before .args in (
       omega (arith, d .keep-pair .ensures .most),
       d .keep-pair .kept .0 ∙ k .loop .inv .1,
       d .keep-pair .ensures .pairs
-      ∙ gather-turn (spansFrom (h .cell .now) 0 (h .pairs)) (h .starts .now) (k .loop .i) _ _ (omega arith) (omega arith) (d .before .choose-pair .ensures)
-      (k .loop .inv .2),
+          ∙ gather-turn (spansFrom (h .cell .now) 0 (h .pairs)) (h .starts .now) (k .loop .i) _ _ (omega arith) (omega arith)
+          (d .before .choose-pair .ensures) (k .loop .inv .2),
     )
 
 same-length : tie.Need-same-length Inv-loop μ-loop
@@ -64,10 +64,10 @@ returns : tie.Need-returns Inv-loop μ-loop
 returns c =
     let k = c .before in
     let h = k .before .before .before .before .args in
-    record
-      { pairs = k .loop .inv .2 ∙ gather-done (spansFrom (h .cell .now) 0 (h .pairs)) (h .starts .now) (k .loop .i) (omega arith)
-      ; most = omega arith
-      }
+    record {
+      pairs = k .loop .inv .2 ∙ gather-done (spansFrom (h .cell .now) 0 (h .pairs)) (h .starts .now) (k .loop .i) (omega arith);
+      most = omega arith;
+    }
 
 pub gather-pairs-spec : {M : Type 1} → statement M
 gather-pairs-spec =

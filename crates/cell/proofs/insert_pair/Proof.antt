@@ -59,7 +59,8 @@ loop-again c =
     let f = d .before .before in
     let g = f .before .before .before .before .before .before in
     let k = g .before .before .before in
-    carry-later (k .loop .inv) (spanOf (g .pair-at .result)) _ (omega arith) (omega arith) (g .pair-at .ensures) (f .if2 .taken) (d .put-pair2 .ensures)
+    carry-later (k .loop .inv) (spanOf (g .pair-at .result)) _ (omega arith) (omega arith) (g .pair-at .ensures) (f .if2 .taken)
+    (d .put-pair2 .ensures)
 
 loop-less-2 : tie.Need-loop-less-2 Inv-loop μ-loop
 loop-less-2 c = search needs

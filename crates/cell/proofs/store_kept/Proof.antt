@@ -1,11 +1,12 @@
 -- `cell::store_kept` meets its contract. The loop's invariant: the first i of the new words stand after latest.
 -- Assumes nothing.
-use mathlib.Core.Path.{_≡_, refl, _∙_}
+use mathlib.Core.Path.{_≡_, refl}
 use Prim.Native.Nat.{_+_, _-_, _≤_}
 use native.Mathlib.Omega.{arith}
 use lib.ListN.{length, length-set}
 use lib.Seq.{paste, paste-zero}
-use Rattle.cell.proofs.Kept.{newWords, store-word, store-end}
+use Rattle.cell.specs.Calls.{newWords}
+use Rattle.cell.proofs.Kept.{store-word, store-end}
 use borrow.Author.Needs.{needs}
 use Rattle.cell.proofs.store_kept.Statement.{statement}
 use Rattle.cell.proofs.store_kept.Tie as tie
@@ -49,12 +50,11 @@ loop-less c = search needs
 loop-again : tie.Need-loop-again Inv-loop μ-loop
 loop-again c =
     let k = c .before .before in
-    let h = k .before .before .before in
-    (
+    let h = k .before .before .before in (
       omega arith,
       simp length-set (k .loop .inv .1),
-      store-word (h .args .cell .now) (h .args .kept .now) (h .args .count) (h .pre) (k .loop .cell) (k .loop .i) _ (omega arith) (c .word-or-zero .ensures)
-      (k .loop .inv .2),
+      store-word (h .args .cell .now) (h .args .kept .now) (h .args .count) (h .pre) (k .loop .cell) (k .loop .i) _ (omega arith)
+          (c .word-or-zero .ensures) (k .loop .inv .2),
     )
 
 same-length : tie.Need-same-length Inv-loop μ-loop
