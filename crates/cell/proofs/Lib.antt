@@ -3,3 +3,7 @@ pub mod Sizes
 pub mod Pairs
 pub mod Fits
 pub mod Starts
+pub mod Choosing
+pub mod Insertion
+pub mod Kept
+pub mod Steps

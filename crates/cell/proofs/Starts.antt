@@ -1,17 +1,17 @@
 -- The starts of a cell in order, put one after the other among others. Assumes nothing.
 use mathlib.Core.Path.{_≡_, refl, sym, ap, _∙_}
 use mathlib.Core.List.{List, [], _∷_, _++_, append-assoc}
-use Prim.Native.Nat.{ℕ, zero, suc, _+_, _-_, _*_, _/_, _%_, _≤_, _<_}
+use Prim.Native.Nat.{ℕ, zero, suc, _+_, _-_, _*_, _/_, _≤_, _<_}
 use native.Mathlib.Nat.{add-zero}
 use native.Mathlib.Omega.{arith}
 use native.Mathlib.Numerals.{add-one}
 use lib.ListN.{length, take, drop, getD, set, length-drop, take-append-drop, List·getD-append}
 use lib.Seq.{paste, paste-suc, take-length, getD-drop, getD-at, sets-eq}
 use Rattle.rules.specs.declared.Op.{Op}
-use Rattle.rules.specs.declared.Op.the-variants.{Either, Both, Without, Chain}
+use Rattle.rules.specs.declared.Op.the-variants.{Both, Chain}
 use Rattle.cell.specs.Words.{startsIn}
 use Rattle.cell.specs.Cell.{cellWords, cellStarts}
-use Rattle.cell.specs.Calls.{Sized, Paired, PushReady, Pushed}
+use Rattle.cell.specs.Calls.{Paired, PushReady, Pushed}
 use Rattle.cell.proofs.Words.{length-starts-in, length-cell-starts}
 use Rattle.cell.proofs.Sizes.{both-words, chain-words}
 
@@ -65,21 +65,21 @@ module _ (c s : List ℕ) (at : ℕ) (p : Paired (length c)) (room : at + length
   push-latest s′ i h q =
       let l : List ℕ = cellStarts Chain c in
       let n : i + 1 ≡ length l = omega (arith, length-chain-starts c p) in
-      record
-        { starts =
-              push-one l s s′ at i _ (omega arith) (omega arith) (chain-start-latest c i h) q
-              ∙ ap (paste s at l) n ∙ ap (λ (z : List ℕ). take at s ++ z ++ drop (at + length l) s) (take-length l)
-              ∙ append-assoc (take at s) l (drop (at + length l) s)
-        ; place = omega arith
-        }
+      record {
+        starts =
+            push-one l s s′ at i _ (omega arith) (omega arith) (chain-start-latest c i h) q
+            ∙ ap (paste s at l) n ∙ ap (λ (z : List ℕ). take at s ++ z ++ drop (at + length l) s) (take-length l)
+            ∙ append-assoc (take at s) l (drop (at + length l) s);
+        place = omega arith;
+      }
 
 -- a cell that adds no start
 pub push-none : (op : Op) (c s : List ℕ) (at : ℕ) → cellStarts op c ≡ [] → Pushed op c s at s at
 push-none op c s at e =
-    record
-      { starts = rw (e, add-zero at) (sym (take-append-drop at s))
-      ; place = rw e (sym (add-zero at))
-      }
+    record {
+      starts = rw (e, add-zero at) (sym (take-append-drop at s));
+      place = rw e (sym (add-zero at));
+    }
 
 -- left's start and right's
 pub push-two :
@@ -87,10 +87,10 @@ pub push-two :
     → Pushed Both c s at (set (set s at (getD c 0 0)) (at + 1) (getD c 2 0)) (at + 2)
 unfolding cellStarts
 push-two c s at h =
-    record
-      { starts = rw (add-one at) (sets-eq (getD c 0 0 ∷ getD c 2 0 ∷ []) s at h ∙ append-assoc (take at s) _ _)
-      ; place = refl
-      }
+    record {
+      starts = rw (add-one at) (sets-eq (getD c 0 0 ∷ getD c 2 0 ∷ []) s at h ∙ append-assoc (take at s) _ _);
+      place = refl;
+    }
 
 module _ {op : Op} {c s : List ℕ} {at : ℕ} (r : PushReady op c s at) where
   pub both-ready : op ≡ Both → (4 ≤ length c) × (at + 2 ≤ length s)

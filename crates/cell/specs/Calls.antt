@@ -1,10 +1,17 @@
 -- What the functions on a cell require and promise. Assumes nothing: these are definitions.
 use mathlib.Core.Path.{_≡_}
 use mathlib.Core.List.{List, _++_}
-use Prim.Native.Nat.{ℕ, _+_, _*_, _%_, _≤_, _<_}
+use Prim.Native.Nat.{ℕ, _+_, _-_, _*_, _/_, _%_, _≤_, _<_}
 use lib.ListN.{length, take, drop}
 use Rattle.rules.specs.declared.Op.{Op}
-use Rattle.cell.specs.Cell.{cellWords, cellAnswer, cellAfter, cellStarts}
+use Rattle.rules.specs.Limits.{ticks}
+use Rattle.detector.specs.Memory.{Span}
+use Rattle.detector.specs.Choice.{gather}
+use Rattle.detector.specs.Step.{later}
+use Rattle.detector.specs.Form.{Sorted}
+use Rattle.cell.specs.Words.{spanAt, keptWords}
+use Rattle.cell.specs.Cell.{cellWords, pairsOf, cellAnswer, cellAfter, cellStarts}
+use Rattle.cell.specs.Pairs.{spansFrom, putSpan}
 
 -- n words are a cell of the operator, for some p(y)
 pub record Sized (op : Op) (n : ℕ) : Type 0 where
@@ -15,6 +22,67 @@ pub record Sized (op : Op) (n : ℕ) : Type 0 where
 pub record Paired (n : ℕ) : Type 0 where
   pub some : 2 ≤ n
   pub even : n % 2 ≡ 0
+
+-- a tick may step the cell c of the operator, where ys are y's possible starts
+pub record StepReady (op : Op) (t : ℕ) (ys c : List ℕ) : Type 0 where
+  pub range : t < ticks
+  pub few : length ys ≤ 62
+  pub words : length c ≡ cellWords op (length ys)
+
+-- the answer is r, and the cell became c′
+pub record Stepped (op : Op) (t x y : ℕ) (ys c c′ : List ℕ) (r : ℕ) : Type 0 where
+  pub answer : r ≡ cellAnswer op t x y c
+  pub after : c′ ≡ cellAfter op t x y ys c
+
+-- the pair at a place became the answer a where that starts strictly later, and r is its start
+pub record Renewed (c : List ℕ) (at a t : ℕ) (c′ : List ℕ) (r : ℕ) : Type 0 where
+  pub start : r ≡ later (spanAt c at) a t .start
+  pub words : c′ ≡ putSpan c at (later (spanAt c at) a t)
+
+-- latest and the kept pairs are the first n
+pub record PairsIn (c : List ℕ) (n : ℕ) : Type 0 where
+  pub same : pairsOf c ≡ spansFrom c 0 n
+  pub within : 2 * n ≤ length c
+
+-- n pairs with starts strictly rising, and room for one more
+pub record InsertReady (c : List ℕ) (n : ℕ) : Type 0 where
+  pub room : 2 * n + 2 ≤ length c
+  pub sorted : Sorted 0 (spansFrom c 0 n)
+
+-- the first r pairs are those of l, at most one more than n
+pub record Grown (l : List Span) (n : ℕ) (c′ : List ℕ) (r : ℕ) : Type 0 where
+  pub pairs : spansFrom c′ 0 r ≡ l
+  pub most : r ≤ n + 1
+
+-- the first n pairs of a cell are there, and there is room for a pair for each of the starts
+pub record GatherReady (c : List ℕ) (n : ℕ) (ys room : List ℕ) : Type 0 where
+  pub within : 2 * n ≤ length c
+  pub enough : 2 * length ys ≤ length room
+
+-- the first r pairs are those gathered
+pub record Gathered (c : List ℕ) (n : ℕ) (ys kept : List ℕ) (r : ℕ) : Type 0 where
+  pub pairs : spansFrom kept 0 r ≡ gather (spansFrom c 0 n) ys
+  pub most : r ≤ length ys
+
+-- n pairs stand in other words, no more than the cell has kept pairs
+pub record StoreReady (c kept : List ℕ) (n : ℕ) : Type 0 where
+  pub paired : Paired (length c)
+  pub room : 2 * n + 2 ≤ length c
+  pub there : 2 * n ≤ length kept
+
+-- these as the new words of the cell's kept pairs
+abbrev pub newWords : List ℕ → List ℕ → ℕ → List ℕ
+newWords c kept n = keptWords (length c / 2 - 1) (spansFrom kept 0 n)
+
+-- the first n pairs of a cell are latest and the kept ones, and it has a kept pair for each of the starts
+pub record KeepReady (c : List ℕ) (n : ℕ) (ys : List ℕ) : Type 0 where
+  pub pairs : PairsIn c n
+  pub few : length ys ≤ 62
+  pub words : length c ≡ 2 * (1 + length ys)
+
+-- latest is as it was, and the kept pairs are those gathered
+abbrev pub keptAfter : List ℕ → List ℕ → List ℕ
+keptAfter ys c = take 2 c ++ keptWords (length ys) (gather (pairsOf c) ys)
 
 -- the cell is one of the operator, and its starts have room at a place among those of its operands
 pub record PushReady (op : Op) (c s : List ℕ) (at : ℕ) : Type 0 where

@@ -1,5 +1,5 @@
 -- The form of a cell's words, where the next tick allowed is τ (document 01, "A state is in form if"). Assumes nothing: these are definitions.
-use mathlib.Core.Bool.{Bool, true, false, _&&_, cond}
+use mathlib.Core.Bool.{Bool, true, false, cond}
 use mathlib.Core.List.{List, [], _∷_}
 use Prim.Native.Nat.{ℕ}
 use lib.Dec.{ltb, leb, eqb}

@@ -1,12 +1,26 @@
 // The cell of one operator: the words that it keeps between ticks, their form, and what a tick makes of them.
 use rules::Op;
 ghost use mathlib.Core.Path.{_≡_};
-ghost use Prim.Native.Nat.{_+_, _/_, _≤_};
-ghost use lib.ListN.{length, drop};
-ghost use Rattle.rules.specs.declared.Op.the-variants.{Both, Chain};
+ghost use mathlib.Core.List.{List, _++_};
+ghost use Prim.Native.Nat.{ℕ, _+_, _-_, _*_, _/_, _<_, _≤_, min, max};
+ghost use native.Mathlib.Decide.{decLt};
+ghost use lib.ListN.{length, take, drop, getD};
+ghost use Rattle.rules.specs.declared.Op.the-variants.{Both, Without, Chain};
+ghost use Rattle.rules.specs.Decisions.{pick};
+ghost use Rattle.rules.specs.Limits.{ticks};
+ghost use Rattle.detector.specs.Choice.{better, choose, insert, keep};
+ghost use Rattle.cell.specs.Words.{spanAt};
 ghost use Rattle.cell.specs.Cell.{cellWords, possible};
 ghost use Rattle.cell.specs.Form.{pairFits, allZero, keptFits, cellFits};
-ghost use Rattle.cell.specs.Calls.{Sized, Paired, PushReady, Pushed};
+ghost use Rattle.cell.specs.Pairs.{spanOf, spansFrom, putSpan};
+ghost use Rattle.cell.specs.Calls.{Sized, Paired, StepReady, Stepped, Renewed, PairsIn};
+ghost use Rattle.cell.specs.Calls.{InsertReady, Grown, GatherReady, Gathered, StoreReady, newWords, KeepReady, keptAfter, PushReady, Pushed};
+
+// A pair: start + 1 and end + 1, or 0 and 0 for none.
+struct Pair {
+    start: u64,
+    end: u64,
+}
 
 // The words of an operator's cell, where its right operand has y possible starts.
 pub fn cell_words(op: Op, y: usize) -> usize
@@ -122,6 +136,247 @@ fn all_zero(cell: &[u64], from: usize) -> bool
         at += 1;
     }
     true
+}
+
+// Steps a cell at a tick t and gives the answer, from the answers x and y of its operands and the possible starts of the right one.
+// The operands' own steps come first.
+pub fn cell_step(op: Op, cell: &mut [u64], starts: &[u64], x: u64, y: u64, t: u64) -> u64
+    requires { ⌜ StepReady op t (now starts) (now cell) ⌝ }
+    ensures { λ r. ⌜ Stepped op t x y (now (starts .entry)) (now (cell .entry)) (now (cell .exit)) r ⌝ }
+{
+    match op {
+        Op::Either => larger(x, y),
+        Op::Both => both_step(cell, x, y, t),
+        Op::Without => without_step(cell, x, y),
+        Op::Chain => chain_step(cell, starts, x, y, t),
+    }
+}
+
+// The greater of min(x, right) and min(left, y), left and right as they become.
+fn both_step(cell: &mut [u64], x: u64, y: u64, t: u64) -> u64
+    requires { ⌜ (length (now cell) ≡ 4) × (t < ticks) ⌝ }
+    ensures { λ r. ⌜ ((ys : List ℕ) → Stepped Both t x y ys (now (cell .entry)) (now (cell .exit)) r) ⌝ }
+{
+    let left = renew(cell, 0, x, t);
+    let right = renew(cell, 2, y, t);
+    larger(lesser(x, right), lesser(left, y))
+}
+
+// The answer of x stands if it starts strictly later than the latest start of y seen.
+fn without_step(cell: &mut [u64], x: u64, y: u64) -> u64
+    requires { ⌜ length (now cell) ≡ 1 ⌝ }
+    ensures { λ r. ⌜ ((t : ℕ) (ys : List ℕ) → Stepped Without t x y ys (now (cell .entry)) (now (cell .exit)) r) ⌝ }
+{
+    let seen = larger(cell[0], y);
+    cell[0] = seen;
+    if seen < x {
+        return x;
+    }
+    0
+}
+
+// The answer and the new kept pairs are chosen from the kept pairs and latest as they were; only then is latest renewed.
+fn chain_step(cell: &mut [u64], starts: &[u64], x: u64, y: u64, t: u64) -> u64
+    requires { ⌜ StepReady Chain t (now starts) (now cell) ⌝ }
+    ensures { λ r. ⌜ Stepped Chain t x y (now (starts .entry)) (now (cell .entry)) (now (cell .exit)) r ⌝ }
+{
+    let pairs = pairs_in(cell);
+    let answer = choose_pair(cell, pairs, y);
+    renew_kept(cell, pairs, starts);
+    renew(cell, 0, x, t);
+    answer.start
+}
+
+fn larger(a: u64, b: u64) -> u64
+    ensures { λ r. ⌜ r ≡ max a b ⌝ }
+{
+    if a < b { b } else { a }
+}
+
+fn lesser(a: u64, b: u64) -> u64
+    ensures { λ r. ⌜ r ≡ min a b ⌝ }
+{
+    if a < b { a } else { b }
+}
+
+// The pair at a place becomes the answer at t where that starts strictly later; gives its start.
+fn renew(cell: &mut [u64], at: usize, answer: u64, t: u64) -> u64
+    requires { ⌜ (at + 1 < length (now cell)) × (t < ticks) ⌝ }
+    ensures { λ r. ⌜ Renewed (now (cell .entry)) at answer t (now (cell .exit)) r ⌝ }
+{
+    let start = cell[at];
+    if start < answer {
+        cell[at] = answer;
+        cell[at + 1] = t + 1;
+        return answer;
+    }
+    start
+}
+
+// How many pairs a chain's cell has: latest, and the kept ones before the first empty one.
+fn pairs_in(cell: &[u64]) -> usize
+    requires { ⌜ Paired (length (now cell)) ⌝ }
+    ensures { λ r. ⌜ PairsIn (now (cell .entry)) r ⌝ }
+{
+    let mut pairs: usize = 1;
+    while 2 * pairs < cell.len() {
+        let start = cell[2 * pairs];
+        if start == 0 {
+            return pairs;
+        }
+        pairs += 1;
+    }
+    pairs
+}
+
+// Of the first pairs those that end before a start, and of these the one with the latest start (of equal starts, the lesser end), or none.
+fn choose_pair(cell: &[u64], pairs: usize, start: u64) -> Pair
+    requires { ⌜ 2 * pairs ≤ length (now cell) ⌝ }
+    ensures { λ r. ⌜ spanOf r ≡ choose (spansFrom (now (cell .entry)) 0 pairs) start ⌝ }
+{
+    let mut chosen = Pair { start: 0, end: 0 };
+    let mut i = pairs;
+    while 0 < i {
+        i -= 1;
+        chosen = better_before(pair_at(cell, 2 * i), chosen, start);
+    }
+    chosen
+}
+
+// The better of p and q if p ends before a start, else q.
+fn better_before(p: Pair, q: Pair, start: u64) -> Pair
+    ensures { λ r. ⌜ spanOf r ≡ pick (decLt (p .end) start) (better (spanOf p) (spanOf q)) (spanOf q) ⌝ }
+{
+    if p.end < start {
+        return better_of(p, q);
+    }
+    q
+}
+
+// The pair with the later start; of equal starts, the lesser end.
+fn better_of(p: Pair, q: Pair) -> Pair
+    ensures { λ r. ⌜ spanOf r ≡ better (spanOf p) (spanOf q) ⌝ }
+{
+    if q.start < p.start {
+        return p;
+    }
+    if p.start < q.start {
+        return q;
+    }
+    if p.end < q.end {
+        return p;
+    }
+    q
+}
+
+fn pair_at(words: &[u64], at: usize) -> Pair
+    requires { ⌜ at + 1 < length (now words) ⌝ }
+    ensures { λ r. ⌜ spanOf r ≡ spanAt (now (words .entry)) at ⌝ }
+{
+    Pair {
+        start: words[at],
+        end: words[at + 1],
+    }
+}
+
+fn put_pair(words: &mut [u64], at: usize, pair: Pair)
+    requires { ⌜ at + 1 < length (now words) ⌝ }
+    ensures { λ _. ⌜ now (words .exit) ≡ putSpan (now (words .entry)) at (spanOf pair) ⌝ }
+{
+    words[at] = pair.start;
+    words[at + 1] = pair.end;
+}
+
+// The new kept pairs take the place of the old; without possible starts there are none.
+fn renew_kept(cell: &mut [u64], pairs: usize, starts: &[u64])
+    requires { ⌜ KeepReady (now cell) pairs (now starts) ⌝ }
+    ensures { λ _. ⌜ now (cell .exit) ≡ keptAfter (now (starts .entry)) (now (cell .entry)) ⌝ }
+{
+    if 0 < starts.len() {
+        gather_kept(cell, pairs, starts);
+    }
+}
+
+// The new kept pairs are gathered apart, since each is chosen from the old.
+fn gather_kept(cell: &mut [u64], pairs: usize, starts: &[u64])
+    requires { ⌜ KeepReady (now cell) pairs (now starts) ⌝ }
+    ensures { λ _. ⌜ now (cell .exit) ≡ keptAfter (now (starts .entry)) (now (cell .entry)) ⌝ }
+{
+    let mut kept = [0u64; 124];
+    let count = gather_pairs(cell, pairs, starts, &mut kept);
+    store_kept(cell, &kept, count);
+}
+
+// For each possible start, the pair chosen; these, without repeats, with starts strictly rising.
+fn gather_pairs(cell: &[u64], pairs: usize, starts: &[u64], kept: &mut [u64]) -> usize
+    requires { ⌜ GatherReady (now cell) pairs (now starts) (now kept) ⌝ }
+    ensures { λ r. ⌜ Gathered (now (cell .entry)) pairs (now (starts .entry)) (now (kept .exit)) r ⌝ }
+{
+    let mut count: usize = 0;
+    let mut i = starts.len();
+    while 0 < i {
+        i -= 1;
+        count = keep_pair(kept, count, choose_pair(cell, pairs, starts[i]));
+    }
+    count
+}
+
+// Puts a pair in its place, nothing if it is none, and gives how many there are then.
+fn keep_pair(kept: &mut [u64], count: usize, pair: Pair) -> usize
+    requires { ⌜ InsertReady (now kept) count ⌝ }
+    ensures { λ r. ⌜ Grown (keep (spanOf pair) (spansFrom (now (kept .entry)) 0 count)) count (now (kept .exit)) r ⌝ }
+{
+    if 0 < pair.start {
+        return insert_pair(kept, count, pair);
+    }
+    count
+}
+
+// Puts a pair in its place among pairs with starts strictly rising, without repeats: each later pair moves up by one.
+fn insert_pair(kept: &mut [u64], count: usize, pair: Pair) -> usize
+    requires { ⌜ InsertReady (now kept) count ⌝ }
+    ensures { λ r. ⌜ Grown (insert (spanOf pair) (spansFrom (now (kept .entry)) 0 count)) count (now (kept .exit)) r ⌝ }
+{
+    let mut carried = pair;
+    let mut i: usize = 0;
+    while i < count {
+        let at = 2 * i;
+        i += 1;
+        let here = pair_at(kept, at);
+        if carried.start == here.start {
+            put_pair(kept, at, better_of(carried, here));
+            return count;
+        }
+        if carried.start < here.start {
+            put_pair(kept, at, carried);
+            carried = here;
+        }
+    }
+    put_pair(kept, 2 * count, carried);
+    count + 1
+}
+
+// The pairs go over the kept pairs of a cell, with zeros after.
+fn store_kept(cell: &mut [u64], kept: &[u64], count: usize)
+    requires { ⌜ StoreReady (now cell) (now kept) count ⌝ }
+    ensures { λ _. ⌜ now (cell .exit) ≡ take 2 (now (cell .entry)) ++ newWords (now (cell .entry)) (now (kept .entry)) count ⌝ }
+{
+    let mut i: usize = 0;
+    while i + 2 < cell.len() {
+        cell[i + 2] = word_or_zero(kept, 2 * count, i);
+        i += 1;
+    }
+}
+
+// Word i of the first n, zero after them.
+fn word_or_zero(words: &[u64], n: usize, i: usize) -> u64
+    requires { ⌜ n ≤ length (now words) ⌝ }
+    ensures { λ r. ⌜ r ≡ pick (decLt i n) (getD (now (words .entry)) i 0) 0 ⌝ }
+{
+    if i < n {
+        return words[i];
+    }
+    0
 }
 
 // Puts the starts that a cell adds at a place among those of its operands, and gives the place after them.

@@ -1,11 +1,10 @@
 -- `cell::kept_fits` meets its contract. The loop's invariant: the pairs from the place reached on, above the last start, fit exactly if all do.
 -- Assumes nothing.
 use mathlib.Core.Path.{_≡_, refl, sym, _∙_}
-use mathlib.Core.Bool.{Bool, false, cond}
-use Prim.Native.Nat.{ℕ, _+_, _-_, _%_, _≤_, _<_}
-use lib.ListN.{length, drop, getD}
+use Prim.Native.Nat.{_-_, _%_, _≤_}
+use lib.ListN.{length, drop}
 use native.Mathlib.Omega.{arith}
-use Rattle.cell.specs.Form.{pairFits, keptFits}
+use Rattle.cell.specs.Form.{keptFits}
 use Rattle.cell.proofs.Fits.{kept-fits-end, kept-fits-empty, kept-fits-low, kept-fits-pair}
 use borrow.Author.Needs.{needs}
 use Rattle.cell.proofs.kept_fits.Statement.{statement}

@@ -1,9 +1,9 @@
 -- `cell::push_chain` meets its contract. The loop's invariant: the first i starts of the cell stand at the place.
 -- Assumes nothing.
-use mathlib.Core.Path.{_≡_, refl, _∙_}
-use Prim.Native.Nat.{ℕ, _+_, _*_, _-_, _≤_, _<_}
+use mathlib.Core.Path.{_≡_, refl}
+use Prim.Native.Nat.{_+_, _*_, _-_, _≤_}
 use native.Mathlib.Omega.{arith}
-use lib.ListN.{length, getD, length-set}
+use lib.ListN.{length, length-set}
 use lib.Seq.{paste, paste-zero}
 use Rattle.rules.specs.declared.Op.the-variants.{Chain}
 use Rattle.cell.specs.Cell.{cellStarts}
@@ -58,11 +58,11 @@ loop-less c = search needs
 loop-again : tie.Need-loop-again Inv-loop μ-loop
 loop-again c =
     let k = c .before .before in
-    let h = k .before in
-    (
+    let h = k .before in (
       omega arith,
       simp length-set (k .loop .inv .1),
-      push-kept (h .args .cell .now) (h .args .starts .now) (h .args .at) (h .pre .0) (h .pre .1) (k .loop .starts) (k .loop .i) (omega arith) (k .loop .inv .2),
+      push-kept (h .args .cell .now) (h .args .starts .now) (h .args .at) (h .pre .0) (h .pre .1) (k .loop .starts) (k .loop .i) (omega arith)
+          (k .loop .inv .2),
     )
 
 shared-slice-read-starts-2 : tie.Need-shared-slice-read-starts-2 Inv-loop μ-loop
@@ -90,7 +90,8 @@ returns : tie.Need-returns Inv-loop μ-loop
 returns c =
     let k = c .before .before in
     let h = k .before in
-    push-latest (h .args .cell .now) (h .args .starts .now) (h .args .at) (h .pre .0) (h .pre .1) (k .loop .starts) (k .loop .i) (omega arith) (k .loop .inv .2)
+    push-latest (h .args .cell .now) (h .args .starts .now) (h .args .at) (h .pre .0) (h .pre .1) (k .loop .starts) (k .loop .i) (omega arith)
+    (k .loop .inv .2)
 
 pub push-chain-spec : {M : Type 1} → statement M
 push-chain-spec =

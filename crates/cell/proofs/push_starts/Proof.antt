@@ -1,8 +1,5 @@
 -- `cell::push_starts` meets its contract: each arm is the case of `cellStarts`. Assumes nothing.
-use mathlib.Core.Path.{refl}
-use Rattle.rules.specs.declared.Op.{Op}
 use Rattle.cell.specs.Cell.{cellStarts}
-use Rattle.cell.specs.Calls.{Pushed}
 use Rattle.cell.proofs.Starts.{push-none, both-ready, chain-ready}
 use borrow.Author.Needs.{needs}
 use Rattle.cell.proofs.push_starts.Statement.{statement}

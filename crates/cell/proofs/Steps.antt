@@ -1,0 +1,100 @@
+-- What a tick makes of a cell, put together from its parts. Assumes nothing.
+use mathlib.Core.Path.{_≡_, refl, sym, ap, _∙_}
+use mathlib.Core.List.{List, [], _∷_}
+use Prim.Native.Nat.{ℕ, suc, _+_, _≤_, _<_, min, max}
+use native.Mathlib.Decide.{decLt}
+use native.Mathlib.Omega.{arith}
+use native.Mathlib.Numerals.{add-one}
+use lib.ListN.{length, getD, set}
+use lib.Seq.{set-getD}
+use Rattle.rules.specs.declared.Op.the-variants.{Either, Both, Without, Chain}
+use Rattle.rules.proofs.Decisions.{pick-yes, pick-no}
+use Rattle.detector.specs.Memory.{Span}
+use Rattle.detector.specs.Choice.{choose}
+use Rattle.detector.specs.Step.{later}
+use Rattle.cell.specs.Words.{spanAt}
+use Rattle.cell.specs.Cell.{pairsOf, cellAnswer, cellAfter}
+use Rattle.cell.specs.Pairs.{putSpan}
+use Rattle.cell.specs.Calls.{Stepped, Renewed, keptAfter}
+
+module _ (c : List ℕ) (at a t : ℕ) where
+  pub renew-later : getD c at 0 < a → Renewed c at a t (set (set c at a) (at + 1) (t + 1)) a
+  unfolding later
+  renew-later h =
+      let q : Span = record { start = a; end = suc t } in
+      let e : later (spanAt c at) a t ≡ q = pick-yes (decLt (getD c at 0) a) q (spanAt c at) h in
+      record {
+        start = ap (λ (k : Span). k .start) (sym e);
+        words = ap (λ (k : ℕ). set (set c at a) (at + 1) k) (add-one t) ∙ ap (putSpan c at) (sym e);
+      }
+
+  pub renew-not : a ≤ getD c at 0 → Renewed c at a t c (getD c at 0)
+  unfolding later
+  renew-not h =
+      let q : Span = record { start = a; end = suc t } in
+      let e : later (spanAt c at) a t ≡ spanAt c at = pick-no (decLt (getD c at 0) a) q (spanAt c at) (λ k. omega arith) in
+      record {
+        start = ap (λ (k : Span). k .start) (sym e);
+        words =
+            sym (set-getD c (at + 1) 0) ∙ ap (λ (l : List ℕ). set l (at + 1) (getD c (at + 1) 0)) (sym (set-getD c at 0))
+            ∙ ap (putSpan c at) (sym e);
+      }
+
+-- `+`: left and right renewed
+pub both-stepped :
+    (t x y : ℕ) (ys c c₁ c₂ : List ℕ) (left right r : ℕ) → length c ≡ 4 → Renewed c 0 x t c₁ left → Renewed c₁ 2 y t c₂ right
+    → r ≡ max (min x right) (min left y) → Stepped Both t x y ys c c₂ r
+unfolding cellAnswer cellAfter
+both-stepped t x y ys (a ∷ b ∷ d ∷ e ∷ []) c₁ c₂ left right r n l k h =
+    let s : right ≡ later (record { start = d; end = e }) y t .start =
+    k .start ∙ ap (λ (z : List ℕ). later (spanAt z 2) y t .start) (l .words) in
+    record {
+      answer = rw (← s, ← l .start) h;
+      after = k .words ∙ ap (λ (z : List ℕ). putSpan z 2 (later (spanAt z 2) y t)) (l .words);
+    }
+both-stepped t x y ys [] c₁ c₂ left right r n l k h = absurd (omega arith)
+both-stepped t x y ys (a ∷ []) c₁ c₂ left right r n l k h = absurd (omega arith)
+both-stepped t x y ys (a ∷ b ∷ []) c₁ c₂ left right r n l k h = absurd (omega arith)
+both-stepped t x y ys (a ∷ b ∷ d ∷ []) c₁ c₂ left right r n l k h = absurd (omega arith)
+both-stepped t x y ys (a ∷ b ∷ d ∷ e ∷ f ∷ c) c₁ c₂ left right r n l k h = absurd (omega arith)
+
+-- `-`: the latest start of y seen
+one-word : (c : List ℕ) (v : ℕ) → length c ≡ 1 → set c 0 v ≡ v ∷ []
+one-word (a ∷ []) v n = refl
+one-word [] v n = absurd (omega arith)
+one-word (a ∷ b ∷ c) v n = absurd (omega arith)
+
+module _ (t x y : ℕ) (ys c : List ℕ) (seen : ℕ) (n : length c ≡ 1) (s : seen ≡ max (getD c 0 0) y) where
+  pub without-stands : seen < x → Stepped Without t x y ys c (set c 0 seen) x
+  unfolding cellAnswer cellAfter
+  without-stands h =
+      record {
+        answer = sym (pick-yes (decLt (max (getD c 0 0) y) x) x 0 (omega arith));
+        after = one-word c seen n ∙ ap (λ (k : ℕ). k ∷ []) s;
+      }
+
+  pub without-falls : x ≤ seen → Stepped Without t x y ys c (set c 0 seen) 0
+  unfolding cellAnswer cellAfter
+  without-falls h =
+      record {
+        answer = sym (pick-no (decLt (max (getD c 0 0) y) x) x 0 (λ k. omega arith));
+        after = one-word c seen n ∙ ap (λ (k : ℕ). k ∷ []) s;
+      }
+
+-- `;`: the kept pairs, and only then latest
+pub chain-stepped :
+    (t x y : ℕ) (ys c c₁ c₂ : List ℕ) (start r : ℕ) → 2 ≤ length c → c₁ ≡ keptAfter ys c → Renewed c₁ 0 x t c₂ start
+    → r ≡ choose (pairsOf c) y .start → Stepped Chain t x y ys c c₂ r
+unfolding cellAnswer cellAfter
+chain-stepped t x y ys (a ∷ b ∷ l) c₁ c₂ start r n k h e =
+    record {
+      answer = e;
+      after = h .words ∙ ap (λ (z : List ℕ). putSpan z 0 (later (spanAt z 0) x t)) k;
+    }
+chain-stepped t x y ys [] c₁ c₂ start r n k h e = absurd (omega arith)
+chain-stepped t x y ys (a ∷ []) c₁ c₂ start r n k h e = absurd (omega arith)
+
+-- `|`: the later start, and no words
+pub either-stepped : (t x y : ℕ) (ys c : List ℕ) (r : ℕ) → r ≡ max x y → Stepped Either t x y ys c c r
+unfolding cellAnswer cellAfter
+either-stepped t x y ys c r e = record { answer = e; after = refl }
