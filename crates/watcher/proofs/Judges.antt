@@ -5,7 +5,6 @@ use mathlib.Core.Path.{_≡_, refl, sym, ap, ap₂, subst, _∙_}
 use mathlib.Core.Bool.{Bool, true, false, cond}
 use mathlib.Core.List.{List, [], _∷_, _++_, append-nil}
 use mathlib.Core.Option.{Option, none, some}
-use native.Mathlib.Nat.{sub-zero}
 use native.Mathlib.Omega.{arith}
 use lib.Dec.{leb}
 use lib.ListN.{length, getD, take, drop, length-append, take-append-drop}
@@ -25,7 +24,6 @@ use Rattle.body.specs.Postfix.{postfix}
 use Rattle.body.specs.Check.{scan}
 use Rattle.body.specs.Machine.{step, run, eval}
 use Rattle.body.proofs.Entries.{entries-fit}
-use Rattle.body.proofs.Walk.{Rest}
 use Rattle.body.proofs.Bodies.{length-by}
 use Rattle.body.proofs.Trees.{size-pos, length-postfix, proper-fits, fits-proper, scan-postfix, scan-tree}
 use Rattle.cell.specs.Cell.{cellWords, possible}
@@ -190,10 +188,6 @@ judged-formed s j =
       le-leb (getD s 1 0) ticks (j .early),
     ) (j .taken)
 
--- the entries break no rule, as a walk by the index has it
-pub judged-rest : (s : List ℕ) → Judged s → Rest (entryIn s) (getD s 0 0) 0 0
-judged-rest s j = simp sub-zero (j .sound)
-
 -- a judge over the entries of a tree
 judge-run : (τ : ℕ) (es : List Entry) (e : Pattern) (ahead : Option (List ℕ)) → es ≡ postfix e
     → run (judgeM τ) es [] ahead .1 ≡ eval (judgeM τ) e ahead .1
@@ -215,7 +209,7 @@ join : (s : List ℕ) (n τ : ℕ) (es : List Entry) (ahead : List ℕ) (e : Pat
 join s n τ es ahead e m beyond q count tree same =
     q ∙ rw (count, tree, same) (sym (state-parts e τ m beyond))
 
-pub judged-in-form : (s : List ℕ) → Judged s → InForm s
+judged-in-form : (s : List ℕ) → Judged s → InForm s
 unfolding judged
 judged-in-form s j =
     let n : ℕ = getD s 0 0 in

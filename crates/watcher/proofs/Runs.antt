@@ -62,12 +62,12 @@ Runs t w i [] st g = Stands t i 0 st
 Runs t w i (s ∷ ss) st g =
     Stands t i (length (s ∷ ss)) st × Ready s st (g .1) × Runs t w (i + 1) ss (step (tickM t w) s st g .0) (step (tickM t w) s st g .1)
 
-pub runs-stands : (t w i : ℕ) (ss : List Entry) (st : List Value) (g : Cells) → Runs t w i ss st g → Stands t i (length ss) st
+runs-stands : (t w i : ℕ) (ss : List Entry) (st : List Value) (g : Cells) → Runs t w i ss st g → Stands t i (length ss) st
 runs-stands t w i [] st g r = r
 runs-stands t w i (s ∷ ss) st g r = r .0
 
 -- a tree has fewer possible starts than entries
-pub p-size : (e : Pattern) → p e + 1 ≤ size e
+p-size : (e : Pattern) → p e + 1 ≤ size e
 unfolding p size
 p-size (event n) = omega arith
 p-size (pair Either x y) = omega (arith, p-size x, p-size y)
@@ -97,11 +97,12 @@ module _ (t w τ : ℕ) (k : τ ≤ t) where
       )
 
   -- the stack after a tree
-  stands-on : (e : Pattern) (m : Memory e) → Form τ e m → (st : List Value) (i : ℕ)
-      → All (Small t) st → startsOn st + length st ≤ i → startsOn (valueOf e m t w ∷ st) + length (valueOf e m t w ∷ st) ≤ i + size e
+  stands-on : (e : Pattern) (m : Memory e) (st : List Value) (i : ℕ) → startsOn st + length st ≤ i
+      → startsOn (valueOf e m t w ∷ st) + length (valueOf e m t w ∷ st) ≤ i + size e
   unfolding startsOn
-  stands-on e m f st i a b = omega (arith, p-size e, length-padded e (next e m t w))
+  stands-on e m st i b = omega (arith, p-size e, length-padded e (next e m t w))
 
+  -- the entries of a tree find what they want, if those after it do
   pub runs-postfix : (e : Pattern) → Proper (256 ^ argumentBytes) e → (m : Memory e) → Form τ e m
       → (rest : List Entry) (st : List Value) (i : ℕ) (written ahead : List ℕ)
       → All (Small t) st → startsOn st + length st ≤ i
@@ -119,9 +120,9 @@ module _ (t w τ : ℕ) (k : τ ≤ t) where
       let vx : Value = valueOf x mx t w in
       let vy : Value = valueOf y my t w in
       let seen : List ℕ = written ++ cells x (next x mx t w) in
-      let bx = stands-on x mx fx st i a b in
+      let bx = stands-on x mx st i b in
       let ax : All (Small t) (vx ∷ st) = (answer-le t w τ k x mx fx, a) in
-      let by = stands-on y my fy (vx ∷ st) (i + size x) ax bx in
+      let by = stands-on y my (vx ∷ st) (i + size x) bx in
       let j : i + (size x + size y + 1) ≡ i + size x + size y + 1 = omega arith in
       let end = runs-pair op x y m f rest st (i + size x + size y) (seen ++ cells y (next y my t w)) ahead a (omega (arith, by))
       (rw (cells-written op x y m t w written, ← j) r) in
@@ -131,7 +132,7 @@ module _ (t w τ : ℕ) (k : τ ≤ t) where
   runs-postfix (within x n) h m f rest st i written ahead a b r =
       let j : i + (size x + 1) ≡ i + size x + 1 = omega arith in
       let g = runs-stands t w (i + (size x + 1)) rest (valueOf (within x n) m t w ∷ st) (written ++ cells x (next x m t w), ahead) r in
-      let bx = stands-on x m f st i a b in
+      let bx = stands-on x m st i b in
       let ax : All (Small t) (valueOf x m t w ∷ st) = (answer-le t w τ k x m f, a) in
       rw (append-assoc (postfix x) (Within n ∷ []) rest)
       (runs-postfix x (h .0) m f (Within n ∷ rest) st i written ahead a b
@@ -153,6 +154,7 @@ runs-start {s} f t w k =
     rw (sub-zero (getD s 0 0), entries-read f, cells-from f, ← append-nil (postfix e))
     (runs-postfix t w (f .next) k e (f .bodied .proper) m (f .form) [] [] 0 [] (f .beyond) tt (omega arith) end)
 
+-- and what it comes to
 pub walk-start : (t w : ℕ) (s : List ℕ)
     → run (tickM t w) (entriesBy (entryIn s) 0 (getD s 0 0 - 0)) [] ([], drop (2 + getD s 0 0) s) ≡ ticked t w s
 unfolding ticked

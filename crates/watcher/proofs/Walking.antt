@@ -19,7 +19,8 @@ use Rattle.body.proofs.Walk.{run-end}
 use Rattle.cell.specs.Cell.{cellWords, cellAnswer, cellAfter, startsAfter}
 use Rattle.cell.proofs.Words.{length-after}
 use Rattle.watcher.specs.State.{InForm}
-use Rattle.watcher.specs.Walk.{Value, Cells, entryIn, tickPair, letterAnswer, withinAnswer, tickM, formed, ticked, lastAnswer, answerOf, wordsAfter}
+use Rattle.watcher.specs.Walk.{Value, Cells, entryIn, tickPair, letterAnswer, withinAnswer, tickM}
+use Rattle.watcher.specs.Walk.{formed, ticked, lastAnswer, answerOf, wordsAfter}
 use Rattle.watcher.proofs.Entries.{run-step}
 use Rattle.watcher.proofs.States.{count-word, next-word, state-long}
 use Rattle.watcher.proofs.Judges.{formed-exactly}
@@ -137,7 +138,8 @@ module _ {t w : ℕ} {old s : List ℕ} {i at : ℕ} {u v : Value} {st : List Va
   walking-cell = omega (arith, ready x h (Pair op) q, held-length old (state-long (x .form)) (x .held))
 
   pub walking-pair : (c : List ℕ) → c ≡ midOf at (cellWords op (length (v .1))) s
-      → Walking t w old (putMid at (cellWords op (length (v .1))) s (cellAfter op t (u .0) (v .0) (v .1) c)) (i + 1) (at + cellWords op (length (v .1)))
+      → Walking t w old (putMid at (cellWords op (length (v .1))) s (cellAfter op t (u .0) (v .0) (v .1) c))
+      (i + 1) (at + cellWords op (length (v .1)))
       ((cellAnswer op t (u .0) (v .0) c, startsAfter op (u .1) (v .1) (cellAfter op t (u .0) (v .0) (v .1) c)) ∷ st)
   unfolding step tickPair
   walking-pair c e =

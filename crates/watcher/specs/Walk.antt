@@ -1,6 +1,5 @@
--- The walks over entries, as machines: the room of a body; a state's form judged, and a tick. Inner contracts cite these, no public
--- call does.
--- Assumes nothing: these are definitions.
+-- The walks over entries, as machines: a body's room, a state's form judged, and a tick; and the words that opening and a tick leave.
+-- Inner contracts cite these, no public call does. Assumes nothing: these are definitions.
 use mathlib.Core.Bool.{Bool, true, false, cond}
 use mathlib.Core.List.{List, [], _∷_, _++_}
 use mathlib.Core.Option.{Option, none, some}
@@ -84,7 +83,8 @@ judged s = run (judgeM (getD s 1 0)) (entriesBy (entryIn s) 0 (getD s 0 0)) [] (
 unfoldable pub formed : List ℕ → Bool
 formed s =
     cond (leb 1 (getD s 0 0)) (cond (leb (getD s 0 0) mostEntries) (cond (leb (2 + getD s 0 0) (length s))
-    (cond (isNone (scan (entriesBy (entryIn s) 0 (getD s 0 0)) 0 0)) (cond (leb (getD s 1 0) ticks) (isSome (judged s)) false) false) false) false) false
+    (cond (isNone (scan (entriesBy (entryIn s) 0 (getD s 0 0)) 0 0)) (cond (leb (getD s 1 0) ticks)
+    (isSome (judged s)) false) false) false) false) false
 
 -- on the stack: an answer, and the possible starts, as many as p
 abbrev pub Value : Type 0
