@@ -1,4 +1,5 @@
 pub mod State
 pub mod Answer
 pub mod Walk
+pub mod Form
 pub mod Claim
