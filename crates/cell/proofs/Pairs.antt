@@ -71,11 +71,6 @@ spans-split c n i h =
     let a : 0 + 2 * i ≡ 2 * i = omega arith in
     ap (spansFrom c 0) e ∙ spans-split-at c 0 i (n - i) ∙ ap (λ (k : ℕ). spansFrom c 0 i ++ spansFrom c k (n - i)) a
 
-pub length-spans : (c : List ℕ) (at n : ℕ) → length (spansFrom c at n) ≡ n
-unfolding spansFrom
-length-spans c at zero = refl
-length-spans c at (suc n) = ap suc (length-spans c (at + 2) n)
-
 -- ---- a pair stored
 
 pub length-put : (c : List ℕ) (at : ℕ) (q : Span) → length (putSpan c at q) ≡ length c

@@ -24,7 +24,7 @@ starts-at (a ∷ b ∷ c) (suc i) h =
     let e : 2 * suc i ≡ suc (suc (2 * i)) = omega arith in
     rw e (starts-at c i (omega arith))
 
-pub length-chain-starts : (c : List ℕ) → Paired (length c) → length (cellStarts Chain c) ≡ length c / 2
+length-chain-starts : (c : List ℕ) → Paired (length c) → length (cellStarts Chain c) ≡ length c / 2
 unfolding cellWords
 length-chain-starts c p =
     let e : length c ≡ 2 * (1 + (length c / 2 - 1)) = omega arith in

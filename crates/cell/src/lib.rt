@@ -2,7 +2,7 @@
 use rules::Op;
 ghost use mathlib.Core.Path.{_≡_};
 ghost use mathlib.Core.List.{List, _++_};
-ghost use Prim.Native.Nat.{ℕ, _+_, _-_, _*_, _/_, _<_, _≤_, min, max};
+ghost use Prim.Native.Nat.{ℕ, _+_, _*_, _/_, _<_, _≤_, min, max};
 ghost use native.Mathlib.Decide.{decLt};
 ghost use lib.ListN.{length, take, drop, getD};
 ghost use Rattle.rules.specs.declared.Op.the-variants.{Both, Without, Chain};
@@ -302,6 +302,7 @@ fn gather_kept(cell: &mut [u64], pairs: usize, starts: &[u64])
     requires { ⌜ KeepReady (now cell) pairs (now starts) ⌝ }
     ensures { λ _. ⌜ now (cell .exit) ≡ keptAfter (now (starts .entry)) (now (cell .entry)) ⌝ }
 {
+    // Two words for each of at most 62 possible starts.
     let mut kept = [0u64; 124];
     let count = gather_pairs(cell, pairs, starts, &mut kept);
     store_kept(cell, &kept, count);
