@@ -4,6 +4,9 @@ pub mod Fits
 pub mod States
 pub mod Judges
 pub mod Piles
+pub mod Arrays
+pub mod Sounds
+pub mod Formed
 pub mod Judging
 pub mod Starts
 pub mod Ticks

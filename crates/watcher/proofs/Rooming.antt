@@ -37,7 +37,7 @@ rooming-start b q =
     let s = sound-start argumentBytes b q in
     record { most = s .most; small = omega arith; piled = piled-start (entryAt argumentBytes b) (count b) (s .rest); same = simp sub-zero }
 
-words-le : (op : Op) (y : ℕ) → cellWords op y ≤ 2 * y + 4
+pub words-le : (op : Op) (y : ℕ) → cellWords op y ≤ 2 * y + 4
 unfolding cellWords
 words-le Either y = omega arith
 words-le Both y = omega arith

@@ -1,31 +1,58 @@
-use borrow.Author.Needs.{needs}
+-- `watcher::cells_needed` meets its contract: the invariant is `Rooming` with the stack of p in an array, the measure the entries left.
+-- Assumes nothing.
+use mathlib.Core.Path.{_≡_, refl, sym, subst, _∙_}
+use mathlib.Core.List.{List, []}
+use Prim.Native.Nat.{ℕ, _+_, _-_, _/_, _≤_}
+use lib.ListN.{getD, set, length, length-set}
 use native.Mathlib.Omega.{arith}
+use borrow.Author.Needs.{needs}
+use Rattle.rules.specs.Limits.{argumentBytes}
+use Rattle.body.specs.declared.Entry.the-variants.{Letter, Pair, Within, Wrong}
+use Rattle.body.specs.Entry.{entryAt}
+use Rattle.body.specs.Stack.{stack, stackBy}
+use Rattle.body.proofs.Walk.{sound-start}
+use Rattle.watcher.proofs.Piles.{piled-wrong}
+use Rattle.watcher.proofs.Arrays.{letter-fits, letter-stack, pair-two, pair-stack, pair-small, pair-deep, pair-set}
+use Rattle.watcher.proofs.Rooming.{Rooming, rooming-start, rooming-end, rooming-letter, rooming-within, rooming-pair}
 use Rattle.watcher.proofs.cells_needed.Statement.{statement}
 use Rattle.watcher.proofs.cells_needed.Tie as tie
 
 abbrev Inv-loop : tie.InvT-loop
-Inv-loop body n possible₀ d₀ words₀ i₀ possible d words i = ?
+Inv-loop body n possible₀ d₀ words₀ i₀ possible d words i = (i ≤ n) × (d ≤ 32) × (length possible ≡ 32) × Rooming body i words (stack possible d)
 
 abbrev μ-loop : tie.MeasureT-loop
-μ-loop body n possible₀ d₀ words₀ i₀ possible d words i = ?
+μ-loop body n possible₀ d₀ words₀ i₀ possible d words i = n - i
+
+-- what the entry at i is, in each arm
+letter-entry : (c : tie.After-enum-told Inv-loop μ-loop)
+    → entryAt argumentBytes (c .before .before .before .before .before .before .args .body .now) (c .before .before .before .before .loop .i)
+    ≡ Letter (c .enum-told .given .0 .0)
+letter-entry c = sym (c .before .before .entry-at .ensures) ∙ c .enum-told .given .1
+
+pair-entry : (c : tie.After-known-told Inv-loop μ-loop)
+    → entryAt argumentBytes (c .before .before .before .before .before .before .before .args .body .now) (c .before .before .before .before .before .loop .i)
+    ≡ Pair (c .before .entry .given .0 .0)
+pair-entry c = sym (c .before .before .before .entry-at .ensures) ∙ c .before .entry .given .1
 
 loop-holds : tie.Need-loop-holds Inv-loop μ-loop
-loop-holds c = omega arith
+loop-holds c = (omega arith, omega arith, refl, unfold stackBy in rooming-start (c .before .args .body .now) (c .before .pre))
 
 entry-at-requires : tie.Need-entry-at-requires Inv-loop μ-loop
-entry-at-requires c κs = omega arith
+entry-at-requires c κs = omega (arith, sound-start argumentBytes (c .before .before .before .args .body .now) (c .before .before .before .pre) .full)
 
 add-i : tie.Need-add-i Inv-loop μ-loop
 add-i c = omega arith
 
 enum-told : tie.Need-enum-told Inv-loop μ-loop
-enum-told c = omega arith
+enum-told c = search needs
 
 mul-possible : tie.Need-mul-possible Inv-loop μ-loop
 mul-possible c = omega arith
 
 array-write-possible : tie.Need-array-write-possible Inv-loop μ-loop
-array-write-possible c = omega arith
+array-write-possible c =
+    let l = c .before .before .before .before .loop in
+    letter-fits (l .possible) (l .d) (l .inv .2) (l .inv .3 .piled) (omega arith) (l .inv .3 .most) _ (letter-entry c)
 
 add-d : tie.Need-add-d Inv-loop μ-loop
 add-d c = omega arith
@@ -34,13 +61,23 @@ loop-less : tie.Need-loop-less Inv-loop μ-loop
 loop-less c = omega arith
 
 loop-again : tie.Need-loop-again Inv-loop μ-loop
-loop-again c = omega arith
+loop-again c =
+    let l = c .before .before .before .before .loop in
+    let x = l .inv .3 in (
+      omega arith,
+      omega (arith, letter-fits (l .possible) (l .d) (l .inv .2) (x .piled) (omega arith) (x .most) _ (letter-entry c)),
+      length-set (l .possible) (l .d) 0 ∙ l .inv .2,
+      rw (letter-stack (l .possible) (l .d) (l .inv .2) (x .piled) (omega arith) (x .most) _ (letter-entry c))
+      (rooming-letter x (omega arith) _ (letter-entry c)),
+    )
 
 enum-known-entry : tie.Need-enum-known-entry Inv-loop μ-loop
-enum-known-entry c = omega arith
+enum-known-entry c = search needs
 
 at-least-requires : tie.Need-at-least-requires Inv-loop μ-loop
-at-least-requires c κs = omega arith
+at-least-requires c κs =
+    let l = c .before .before .before .before .before .loop in
+    pair-two (l .possible) (l .d) (l .inv .2) (l .inv .3 .piled) (omega arith) (l .inv .3 .most) _ (pair-entry c)
 
 sub-y : tie.Need-sub-y Inv-loop μ-loop
 sub-y c = omega arith
@@ -61,7 +98,10 @@ array-read-x : tie.Need-array-read-x Inv-loop μ-loop
 array-read-x c = omega arith
 
 small-requires : tie.Need-small-requires Inv-loop μ-loop
-small-requires c κs = omega arith
+small-requires c κs =
+    let k = c .before in
+    let l = k .before .before .before .before .before .loop in
+    pair-small (l .possible) (l .d) (l .inv .2) (l .inv .3 .piled) (omega arith) (l .inv .3 .most) _ (pair-entry k)
 
 possible-of-requires : tie.Need-possible-of-requires Inv-loop μ-loop
 possible-of-requires c κs = omega arith
@@ -79,7 +119,13 @@ cell-words-requires : tie.Need-cell-words-requires Inv-loop μ-loop
 cell-words-requires c κs = omega arith
 
 add-words : tie.Need-add-words Inv-loop μ-loop
-add-words c = omega arith
+add-words c =
+    let k = c .before .before .before .before in
+    let l = k .before .before .before .before .before .loop in
+    let x = l .inv .3 in
+    let q = pair-entry k in
+    let s = pair-stack (l .possible) (l .d) (l .inv .2) (x .piled) (omega arith) (x .most) _ q in
+    omega (arith, rooming-pair (rw s at x) (omega arith) _ q .small, x .most, c .cell-words .ensures)
 
 sub-d : tie.Need-sub-d Inv-loop μ-loop
 sub-d c = omega arith
@@ -88,28 +134,45 @@ loop-less-2 : tie.Need-loop-less-2 Inv-loop μ-loop
 loop-less-2 c = omega arith
 
 loop-again-2 : tie.Need-loop-again-2 Inv-loop μ-loop
-loop-again-2 c = omega arith
+loop-again-2 c =
+    let k = c .before .before .before .before in
+    let l = k .before .before .before .before .before .loop in
+    let x = l .inv .3 in
+    let q = pair-entry k in
+    let s = pair-stack (l .possible) (l .d) (l .inv .2) (x .piled) (omega arith) (x .most) _ q in (
+      omega arith,
+      omega arith,
+      length-set (l .possible) (l .d - 2) (c .before .possible-of .result) ∙ l .inv .2,
+      rw (pair-set (l .possible) (l .d) (l .inv .2) (x .piled) (omega arith) (x .most) _ q (c .before .possible-of .result), c .before .possible-of .ensures, c .cell-words .ensures)
+      (rooming-pair (rw s at x) (omega arith) _ q),
+    )
 
 enum-told-2 : tie.Need-enum-told-2 Inv-loop μ-loop
-enum-told-2 c = omega arith
+enum-told-2 c = search needs
 
 loop-less-3 : tie.Need-loop-less-3 Inv-loop μ-loop
 loop-less-3 c = omega arith
 
 loop-again-3 : tie.Need-loop-again-3 Inv-loop μ-loop
-loop-again-3 c = omega arith
+loop-again-3 c =
+    let l = c .before .before .before .before .loop in
+    (omega arith, l .inv .1, l .inv .2, rooming-within (l .inv .3) (omega arith) _ (sym (c .before .before .entry-at .ensures) ∙ c .enum-told2 .given .1))
 
 enum-told-3 : tie.Need-enum-told-3 Inv-loop μ-loop
-enum-told-3 c = omega arith
+enum-told-3 c = search needs
 
 loop-less-4 : tie.Need-loop-less-4 Inv-loop μ-loop
 loop-less-4 c = omega arith
 
 loop-again-4 : tie.Need-loop-again-4 Inv-loop μ-loop
-loop-again-4 c = omega arith
+loop-again-4 c =
+    let l = c .before .before .before .before .loop in
+    absurd (piled-wrong (l .inv .3 .piled) (omega arith) (sym (c .before .before .entry-at .ensures) ∙ c .enum-told3 .given .1))
 
 returns : tie.Need-returns Inv-loop μ-loop
-returns c = omega arith
+returns c =
+    let l = c .before .loop in
+    (sym (rooming-end (l .inv .3) (omega arith)), omega (arith, l .inv .3 .small, l .inv .3 .most))
 
 pub cells-needed-spec : {M : Type 1} → statement M
 cells-needed-spec =
