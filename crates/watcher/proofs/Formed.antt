@@ -36,14 +36,24 @@ module _ (s : List ℕ) where
           pub formed-early : ticks < getD s 1 0 → false ≡ formed s
           unfolding formed sounds
           formed-early h =
-              rw (le-leb 1 (getD s 0 0) least, le-leb (getD s 0 0) mostEntries most, le-leb (2 + getD s 0 0) (length s) long, sound,
-              lt-leb (getD s 1 0) ticks h)
+              rw (
+                le-leb 1 (getD s 0 0) least,
+                le-leb (getD s 0 0) mostEntries most,
+                le-leb (2 + getD s 0 0) (length s) long,
+                sound,
+                lt-leb (getD s 1 0) ticks h,
+              )
 
           pub formed-cells : getD s 1 0 ≤ ticks → cellsFit s ≡ formed s
           unfolding formed sounds cellsFit
           formed-cells h =
-              rw (le-leb 1 (getD s 0 0) least, le-leb (getD s 0 0) mostEntries most, le-leb (2 + getD s 0 0) (length s) long, sound,
-              le-leb (getD s 1 0) ticks h)
+              rw (
+                le-leb 1 (getD s 0 0) least,
+                le-leb (getD s 0 0) mostEntries most,
+                le-leb (2 + getD s 0 0) (length s) long,
+                sound,
+                le-leb (getD s 1 0) ticks h,
+              )
 
   -- a state of fewer than three words has no entry
   pub formed-short : length s < 3 → false ≡ formed s

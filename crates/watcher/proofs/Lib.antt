@@ -16,5 +16,6 @@ pub mod Calls
 pub mod Walking
 pub mod Rooming
 pub mod Opens
+pub mod Puts
 pub mod Agrees
 pub mod Theorem

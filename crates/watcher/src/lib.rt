@@ -4,13 +4,17 @@ mod form;
 use body::BodyCheck;
 use body::Entry;
 use refusal::Refusal;
+use rules::Op;
 ghost use mathlib.Core.Path.{_≡_};
-ghost use Prim.Native.Nat.{_≤_, _+_};
+ghost use Prim.Native.Nat.{_+_, _*_, _≤_, _<_};
 ghost use lib.ListN.{length};
 ghost use Rattle.rules.specs.Limits.{argumentBytes};
+ghost use Rattle.body.specs.Entry.{opNumber};
 ghost use Rattle.body.specs.Check.{checkOf};
-ghost use Rattle.watcher.specs.Answer.{RoomAnswers};
-ghost use Rattle.watcher.specs.Walk.{cellsNeeded};
+ghost use Rattle.watcher.specs.Answer.{RoomAnswers, OpenAnswers};
+ghost use Rattle.watcher.specs.Walk.{cellsNeeded, wordsOpened};
+ghost use Rattle.watcher.specs.State.{wordOf};
+ghost use Rattle.watcher.specs.Form.{Narrow, Put, wordsOf, zeros, OpenReady};
 
 // How many words a state takes.
 pub enum Needed {
@@ -38,6 +42,91 @@ pub fn room(body: &[u8]) -> Needed
     match body::check_body(body) {
         BodyCheck::Refused(r) => Needed::Refused(r),
         BodyCheck::Sound => Needed::Words(2 + body.len() / 5 + cells_needed(body)),
+    }
+}
+
+// Opens a state for a body's pattern: the words of a fresh memory. Words beyond the room are never touched.
+pub fn open(body: &[u8], state: &mut [u64]) -> Opening
+    ensures { λ r. ⌜ OpenAnswers (now (body .entry)) (now (state .entry)) (now (state .exit)) r ⌝ }
+{
+    match body::check_body(body) {
+        BodyCheck::Refused(r) => Opening::Refused(r),
+        BodyCheck::Sound => {
+            let n = body.len() / 5;
+            let cells = cells_needed(body);
+            let needed = 2 + n + cells;
+            if state.len() < needed {
+                return Opening::Refused(Refusal::Room(needed));
+            }
+            write_opened(body, state, n, cells);
+            Opening::Opened
+        }
+    }
+}
+
+// The number of entries, no tick yet, the entries, and empty cells.
+fn write_opened(body: &[u8], state: &mut [u64], n: usize, cells: usize)
+    requires { ⌜ OpenReady (now body) (now state) n cells ⌝ }
+    ensures { λ _. ⌜ now (state .exit) ≡ wordsOpened (now (body .entry)) (now (state .entry)) ⌝ }
+{
+    state[0] = n as u64;
+    state[1] = 0;
+    write_entries(body, state, n);
+    clear(state, 2 + n, cells);
+}
+
+// The words of n entries, after the first two words.
+fn write_entries(body: &[u8], state: &mut [u64], n: usize)
+    requires { ⌜ (n * 5 ≤ length (now body)) × (2 + n ≤ length (now state)) ⌝ }
+    ensures { λ _. ⌜ Put (wordsOf (now (body .entry))) 2 n (now (state .entry)) (now (state .exit)) ⌝ }
+{
+    let mut i: usize = 0;
+    while i < n {
+        state[2 + i] = word_at(body, i);
+        i += 1;
+    }
+}
+
+// The word of entry i: its op and 256 times its argument.
+fn word_at(body: &[u8], i: usize) -> u64
+    requires { ⌜ i * 5 + 4 < length (now body) ⌝ }
+    ensures { λ r. ⌜ r ≡ wordsOf (now (body .entry)) i ⌝ }
+{
+    word_of(body::entry_at(body, i))
+}
+
+fn word_of(entry: Entry) -> u64
+    requires { ⌜ Narrow entry ⌝ }
+    ensures { λ r. ⌜ r ≡ wordOf entry ⌝ }
+{
+    match entry {
+        Entry::Letter(kind) => 256 * kind,
+        Entry::Pair(op) => op_number(op),
+        Entry::Within(limit) => 5 + 256 * limit,
+        Entry::Wrong => 255,
+    }
+}
+
+fn op_number(op: Op) -> u64
+    ensures { λ r. ⌜ r ≡ opNumber op ⌝ }
+{
+    match op {
+        Op::Either => 1,
+        Op::Both => 2,
+        Op::Without => 3,
+        Op::Chain => 4,
+    }
+}
+
+// n words from a place on are made zero.
+fn clear(state: &mut [u64], from: usize, n: usize)
+    requires { ⌜ from + n ≤ length (now state) ⌝ }
+    ensures { λ _. ⌜ Put zeros from n (now (state .entry)) (now (state .exit)) ⌝ }
+{
+    let mut j: usize = 0;
+    while j < n {
+        state[from + j] = 0;
+        j += 1;
     }
 }
 

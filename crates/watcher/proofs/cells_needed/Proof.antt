@@ -68,7 +68,7 @@ loop-again c =
       omega (arith, letter-fits (l .possible) (l .d) (l .inv .2) (x .piled) (omega arith) (x .most) _ (letter-entry c)),
       length-set (l .possible) (l .d) 0 ∙ l .inv .2,
       rw (letter-stack (l .possible) (l .d) (l .inv .2) (x .piled) (omega arith) (x .most) _ (letter-entry c))
-      (rooming-letter x (omega arith) _ (letter-entry c)),
+          (rooming-letter x (omega arith) _ (letter-entry c)),
     )
 
 enum-known-entry : tie.Need-enum-known-entry Inv-loop μ-loop
@@ -144,7 +144,7 @@ loop-again-2 c =
       omega arith,
       length-set (l .possible) (l .d - 2) (c .before .possible-of .result) ∙ l .inv .2,
       rw (pair-set (l .possible) (l .d) (l .inv .2) (x .piled) (omega arith) (x .most) _ q (c .before .possible-of .result), c .before .possible-of .ensures, c .cell-words .ensures)
-      (rooming-pair (rw s at x) (omega arith) _ q),
+          (rooming-pair (rw s at x) (omega arith) _ q),
     )
 
 enum-told-2 : tie.Need-enum-told-2 Inv-loop μ-loop

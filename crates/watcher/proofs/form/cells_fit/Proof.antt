@@ -56,7 +56,7 @@ loop-holds c =
       omega arith,
       refl,
       subst (λ (k : ℕ). Judging (s .args .state .now) 0 k []) z
-      (judging-start (s .args .state .now) (omega (arith, e .long, e .count)) (none-by _ (s .pre .sound))),
+          (judging-start (s .args .state .now) (omega (arith, e .long, e .count)) (none-by _ (s .pre .sound))),
     )
 
 entry-in-requires : tie.Need-entry-in-requires Inv-loop μ-loop
@@ -93,7 +93,7 @@ loop-again c =
       omega (arith, letter-fits (l .possible) (l .d) (l .inv .2) (x .piled) h (omega (arith, e .count, e .most)) _ (letter-entry c)),
       length-set (l .possible) (l .d) 0 ∙ l .inv .2,
       rw (letter-stack (l .possible) (l .d) (l .inv .2) (x .piled) h (omega (arith, e .count, e .most)) _ (letter-entry c))
-      (judging-letter x h _ (letter-entry c)),
+          (judging-letter x h _ (letter-entry c)),
     )
 
 enum-known-entry : tie.Need-enum-known-entry Inv-loop μ-loop
@@ -205,7 +205,7 @@ loop-again-2 c =
       omega arith,
       length-set (l .possible) (l .d - 2) (c .possible-of .result) ∙ l .inv .2,
       rw (pair-set (l .possible) (l .d) (l .inv .2) (x .piled) h (omega (arith, e .count, e .most)) _ q (c .possible-of .result), c .possible-of .ensures, w .cell-words .ensures)
-      (judging-pair (rw st at x) h _ q (omega (arith, w .cell-words .ensures)) fits),
+          (judging-pair (rw st at x) h _ q (omega (arith, w .cell-words .ensures)) fits),
     )
 
 returns-2 : tie.Need-returns-2 Inv-loop μ-loop
