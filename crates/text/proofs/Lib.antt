@@ -1,0 +1,10 @@
+pub mod Branches
+pub mod Steps
+pub mod Numbers
+pub mod Entries
+pub mod Ways
+pub mod Bytes
+pub mod Complete
+pub mod Begun
+pub mod Sound
+pub mod Answers

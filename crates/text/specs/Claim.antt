@@ -1,0 +1,1 @@
+-- What is claimed of reading and printing. Assumes nothing: these are definitions.
