@@ -8,3 +8,7 @@ pub mod Complete
 pub mod Begun
 pub mod Sound
 pub mod Answers
+pub mod Backwards
+pub mod Trees
+pub mod Lengths
+pub mod Printings

@@ -16,6 +16,8 @@ use Rattle.text.specs.Render.{render}
 use Rattle.text.specs.Grammar.{TextOf, Broken}
 use Rattle.text.specs.declared.Reading.{Reading}
 use Rattle.text.specs.declared.Reading.the-variants.{Read, Refused as Unread}
+use Rattle.text.specs.declared.Printing.{Printing}
+use Rattle.text.specs.declared.Printing.the-variants.{Printed, Refused as Unprinted}
 
 -- the text s is short enough and the text of a pattern, its tree
 pub record IsText (s : List ℕ) : Type 0 where
@@ -63,3 +65,35 @@ pub data RefusedText (s d : List ℕ) : Refusal → Type 0 where
 abbrev pub ReadingOf : List ℕ → List ℕ → List ℕ → Reading → Type 0
 ReadingOf s d d′ (Read bytes) = IsRead s d d′ bytes
 ReadingOf s d d′ (Unread r) = RefusedText s d r × (d′ ≡ d)
+
+-- the body b is that of a pattern, its tree
+pub record IsBody (b : List ℕ) : Type 0 where
+  pub tree : Pattern
+  pub body : BodyOf argumentBytes b tree
+
+-- 6, 7: the check of a lone body refuses it
+pub record IsUnsound (b : List ℕ) (r : Refusal) : Type 0 where
+  pub unsound : checkOf argumentBytes b ≡ Unsound r
+
+-- 8: the slice d lent for the text is too short; the place is the length needed
+pub record IsTextRoom (b d : List ℕ) (need : ℕ) : Type 0 where
+  pub some : IsBody b
+  pub needs : need ≡ length (render (some .tree))
+  pub lacks : length d < need
+
+-- the text is written to d, which holds d′ afterwards: the text, and then what stood there before
+pub record IsPrinted (b d d′ : List ℕ) (bytes : ℕ) : Type 0 where
+  pub some : IsBody b
+  pub counts : bytes ≡ length (render (some .tree))
+  pub fits : bytes ≤ length d
+  pub written : d′ ≡ render (some .tree) ++ drop bytes d
+
+-- a body is refused with these, and with no other
+pub data RefusedBody (b d : List ℕ) : Refusal → Type 0 where
+  unsound : {r : Refusal} → IsUnsound b r → RefusedBody b d r
+  room : {need : ℕ} → IsTextRoom b d need → RefusedBody b d (Room need)
+
+-- the answer to printing b, where d is lent for the text and holds d′ afterwards; a refusal changes nothing
+abbrev pub PrintingOf : List ℕ → List ℕ → List ℕ → Printing → Type 0
+PrintingOf b d d′ (Printed bytes) = IsPrinted b d d′ bytes
+PrintingOf b d d′ (Unprinted r) = RefusedBody b d r × (d′ ≡ d)

@@ -1,14 +1,18 @@
 // Pattern text: reading it into a body, and printing a body as text.
+use body::BodyCheck;
+use body::Entry;
 use refusal::Refusal;
+use rules::Op;
 ghost use mathlib.Core.Path.{_≡_};
-ghost use mathlib.Core.List.{_∷_, _++_};
-ghost use Prim.Native.Nat.{_≤_};
+ghost use mathlib.Core.List.{[], _∷_, _++_};
+ghost use Prim.Native.Nat.{_<_, _≤_};
 ghost use lib.ListN.{length, take, drop};
-ghost use Rattle.rules.specs.Limits.{argumentBytes};
+ghost use Rattle.rules.specs.Limits.{letters, argumentBytes};
 ghost use Rattle.body.specs.Bytes.{bytesOf};
-ghost use Rattle.text.specs.Answer.{ReadingOf};
+ghost use Rattle.text.specs.Render.{numbers, mostPrinted, letterByte, opByte, digits};
+ghost use Rattle.text.specs.Answer.{ReadingOf, PrintingOf};
 ghost use Rattle.text.specs.Machine.{letterOf, signOf, signNumber, digitOf};
-ghost use Rattle.text.specs.Told.{DecimalAt, Written, ExpressionAt, TailAt};
+ghost use Rattle.text.specs.Told.{DecimalAt, Written, ExpressionAt, TailAt, Backward, NumberReady, TreeReady, TreeWritten};
 
 // The limits on texts and bodies, and the bytes of an entry.
 const MOST_TEXT: usize = 1024;
@@ -21,9 +25,17 @@ const MOST_BODY: usize = 315;
 
 const MOST_NUMBER: u64 = 4294967295;
 
+const MOST_PRINTED: usize = 807;
+
 // What reading a text answers: the bytes of body written, or why the text is refused.
 pub enum Reading {
     Read(usize),
+    Refused(Refusal),
+}
+
+// What printing a body answers: the bytes of text written, or why the body is refused.
+pub enum Printing {
+    Printed(usize),
     Refused(Refusal),
 }
 
@@ -37,6 +49,12 @@ enum Reach {
 enum Decimal {
     Value { end: usize, value: u32 },
     Bad { place: usize },
+}
+
+// Where a written pattern begins: its first entry, and its first byte.
+struct Begin {
+    entry: usize,
+    byte: usize,
 }
 
 // Reads the text of a pattern and writes its body; a refused text leaves `body` as it was.
@@ -63,6 +81,27 @@ pub fn read_pattern(text: &[u8], body: &mut [u8]) -> Reading
             }
             copy(body, &made, need);
             Reading::Read(need)
+        }
+    }
+}
+
+// Prints a body as the text of its pattern; a refused body leaves `text` as it was.
+pub fn print_pattern(body: &[u8], text: &mut [u8]) -> Printing
+    ensures { λ r. ⌜ PrintingOf (now (body .entry)) (now (text .entry)) (now (text .exit)) r ⌝ }
+{
+    let check = body::check_body(body);
+    match check {
+        BodyCheck::Refused(r) => Printing::Refused(r),
+        BodyCheck::Sound => {
+            let mut made = [0u8; MOST_PRINTED];
+            let begin = write_tree(body, body.len() / ENTRY, &mut made, MOST_PRINTED);
+            let from = begin.byte;
+            let need = MOST_PRINTED - from;
+            if text.len() < need {
+                return Printing::Refused(Refusal::Room(need));
+            }
+            copy(text, &made[from..], need);
+            Printing::Printed(need)
         }
     }
 }
@@ -254,6 +293,94 @@ fn put(body: &mut [u8; MOST_BODY], n: usize, op: u8, argument: u32)
         body[at + 2] = (argument / 256 % 256) as u8;
         body[at + 3] = (argument / 256 / 256 % 256) as u8;
         body[at + 4] = (argument / 256 / 256 / 256 % 256) as u8;
+    }
+}
+
+// Writes the pattern whose last entry is the one before entry `end`, so that its text ends before `at`: both are gone through backwards.
+fn write_tree(body: &[u8], end: usize, text: &mut [u8; MOST_PRINTED], at: usize) -> Begin
+    requires { ⌜ TreeReady (now body) end at ⌝ }
+    ensures { λ r. ⌜ TreeWritten (now (body .entry)) end (now (text .entry)) (now (text .exit)) at (r .entry) (r .byte) ⌝ }
+{
+    let last = end - 1;
+    let entry = body::entry_at(body, last);
+    match entry {
+        Entry::Letter(n) => {
+            let byte = write_byte(text, at, letter_byte(n));
+            Begin {
+                entry: last,
+                byte: byte,
+            }
+        }
+        Entry::Pair(op) => {
+            let shut = write_byte(text, at, 41);
+            let right = write_tree(body, last, text, shut);
+            let middle = write_byte(text, right.byte, op_byte(op));
+            let left = write_tree(body, right.entry, text, middle);
+            let open = write_byte(text, left.byte, 40);
+            Begin {
+                entry: left.entry,
+                byte: open,
+            }
+        }
+        Entry::Within(n) => {
+            let shut = write_byte(text, at, 41);
+            let number = write_number(text, shut, n);
+            let middle = write_byte(text, number, 64);
+            let left = write_tree(body, last, text, middle);
+            let open = write_byte(text, left.byte, 40);
+            Begin {
+                entry: left.entry,
+                byte: open,
+            }
+        }
+        Entry::Wrong => Begin {
+            entry: last,
+            byte: at,
+        },
+    }
+}
+
+// Writes a number in decimal, so that it ends before `at`; answers where it begins.
+fn write_number(text: &mut [u8; MOST_PRINTED], at: usize, n: u64) -> usize
+    requires { ⌜ NumberReady n at ⌝ }
+    ensures { λ r. ⌜ Backward (now (text .entry)) (now (text .exit)) at r (digits n) ⌝ }
+{
+    let mut left = n;
+    let mut from = at;
+    while left > 9 {
+        from = write_byte(text, from, (left % 10) as u8 + 48);
+        left = left / 10;
+    }
+    write_byte(text, from, left as u8 + 48)
+}
+
+// Writes a byte before `at`; answers its place.
+fn write_byte(text: &mut [u8; MOST_PRINTED], at: usize, byte: u8) -> usize
+    requires { ⌜ (0 < at) × (at ≤ mostPrinted) ⌝ }
+    ensures { λ r. ⌜ Backward (now (text .entry)) (now (text .exit)) at r (byte ∷ []) ⌝ }
+{
+    let place = at - 1;
+    text[place] = byte;
+    place
+}
+
+// The letter of an event type.
+fn letter_byte(n: u64) -> u8
+    requires { ⌜ n < letters ⌝ }
+    ensures { λ r. ⌜ r ≡ letterByte n ⌝ }
+{
+    if n < 26 { n as u8 + 65 } else { n as u8 + 71 }
+}
+
+// The sign of an operator.
+fn op_byte(op: Op) -> u8
+    ensures { λ r. ⌜ r ≡ opByte op ⌝ }
+{
+    match op {
+        Op::Either => 124,
+        Op::Both => 43,
+        Op::Without => 45,
+        Op::Chain => 59,
     }
 }
 
