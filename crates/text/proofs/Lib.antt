@@ -12,3 +12,5 @@ pub mod Backwards
 pub mod Trees
 pub mod Lengths
 pub mod Printings
+pub mod Decided
+pub mod Claims
