@@ -3,13 +3,11 @@
 use Prim.Native.Nat.{ℕ, zero, suc, _+_, _*_, _/_, _≤_, _^_}
 use mathlib.Core.Path.{_≡_, refl, sym, ap, subst, _∙_}
 use mathlib.Core.Bool.{Bool, true, false}
-use mathlib.Core.Logic.{_⊎_, inl, inr, ⊎-elim}
-use mathlib.Core.List.{List, [], _∷_, _++_, append-nil}
+use mathlib.Core.Logic.{_⊎_, inl, inr}
+use mathlib.Core.List.{List, [], _∷_, append-nil}
 use mathlib.Core.Option.{Option, none, some}
 use native.Mathlib.Omega.{arith}
-use lib.ListN.{length, take, drop, getD, take-append-drop}
-use Rattle.rules.specs.Lists.{All}
-use Rattle.rules.specs.Limits.{mostEntries}
+use lib.ListN.{length}
 use Rattle.rules.specs.Pattern.{Pattern, event, pair, within, size, Proper}
 use Rattle.refusal.specs.declared.Refusal.the-variants.{Size, Body}
 use Rattle.body.specs.declared.Entry.{Entry}
@@ -19,10 +17,11 @@ use Rattle.body.specs.Entry.{entriesBytes, entriesBy, entryAt, entries}
 use Rattle.body.specs.Postfix.{postfix, encode, Bodied}
 use Rattle.body.specs.Check.{scan, sized, verdict, checkOf}
 use Rattle.body.specs.Machine.{Machine, run, eval}
-use Rattle.body.specs.Claim.{BodyOf, AcceptedExactly, OnePattern, forest, Lowest, RefusedLowest, LowestRefused, Counted, RefusedSize, Answered}
-use Rattle.body.proofs.Entries.{Fits, length-entries, entries-bytes, entries-fit, bytes-entries}
+use Rattle.body.specs.Claim.{BodyOf, AcceptedExactly, OnePattern, forest, RefusedLowest, LowestRefused, Counted, RefusedSize, Answered}
+use Rattle.body.proofs.Entries.{length-entries, entries-bytes, entries-fit, read-fits, bytes-entries}
 use Rattle.body.proofs.Sizes.{sized-whole, whole-count, whole-sized, sound-parts, body-parts, size-part, check-by, check-size}
-use Rattle.body.proofs.Trees.{size-pos, length-postfix, proper-fits, fits-proper, scan-postfix, Outcome, scan-outcome, lowest-le, lowest-scan}
+use Rattle.body.proofs.Trees.{size-pos, length-postfix, proper-fits, fits-proper, scan-postfix}
+use Rattle.body.proofs.Trees.{Outcome, scan-outcome, scan-tree, lowest-le, lowest-scan}
 use Rattle.body.proofs.Machines.{run-postfix}
 
 -- the body of a pattern
@@ -48,7 +47,7 @@ encode-sound width w e h =
     ∙ ap (verdict 0) (ap (λ (es : List Entry). scan es 0 0) (entries-encode width w e (h .proper)) ∙ scan-whole e)
 
 -- the number of entries
-length-by : (f : ℕ → Entry) (i n : ℕ) → length (entriesBy f i n) ≡ n
+pub length-by : (f : ℕ → Entry) (i n : ℕ) → length (entriesBy f i n) ≡ n
 unfolding entriesBy
 length-by f i zero = refl
 length-by f i (suc n) = ap suc (length-by f (i + 1) n)
@@ -64,38 +63,50 @@ scanned width b o p q =
     subst (Outcome (entries width b)) q
     (scan-outcome (entries width b) [] 0 refl (omega (arith, length-read width b, sized-whole width (length b) p .least)))
 
--- from a sound body to its pattern
+-- the entries of b are those of the pattern e
+pub record TreeOf (width : ℕ) (b : List ℕ) (e : Pattern) : Type 0 where
+  pub bodied : Bodied width e
+  pub read : entries width b ≡ postfix e
+
+-- from a sound body to its pattern: by entries, and by bytes
+pub sound-tree : (width : ℕ) (b : List ℕ) → checkOf width b ≡ Sound → (e : Pattern) × TreeOf width b e
+unfolding entries
+sound-tree width b p =
+    let parts = sound-parts width b p in
+    let whole = sized-whole width (length b) (parts .0) in
+    let n : ℕ = length b / (width + 1) in
+    let found : (e : Pattern) × (entries width b ≡ postfix e) = scan-tree (entries width b) (parts .1) in
+    let e : Pattern = found .0 in
+    let fit = entries-fit (Unit {0}) (256 ^ width) (entryAt width b) (read-fits width b) 0 n in
+    let proper = fits-proper (Unit {0}) (256 ^ width) e (rw (found .1) at fit) in
+    let count : size e ≡ n = sym (length-postfix e) ∙ ap length (sym (found .1)) ∙ length-read width b in
+    (e, record { bodied = record { proper = proper; few = omega (arith, whole .most) }; read = found .1 })
+
 pub sound-pattern : (width : ℕ) (b : List ℕ) → Bytes b → checkOf width b ≡ Sound → (e : Pattern) × BodyOf width b e
 unfolding entries encode
 sound-pattern width b w p =
-    let parts = sound-parts width b p in
-    let whole = sized-whole width (length b) (parts .0) in
-    let found : (e : Pattern) × (entries width b ≡ postfix e) = scanned width b none (parts .0) (parts .1) in
+    let whole = sized-whole width (length b) (sound-parts width b p .0) in
+    let found = sound-tree width b p in
     let e : Pattern = found .0 in
-    let fit : All (Fits (Unit {0}) (256 ^ width)) (postfix e) =
-        subst (All (Fits (Unit {0}) (256 ^ width))) (found .1) (entries-fit width b 0 (length b / (width + 1))) in
-    let proper : Proper (256 ^ width) e = fits-proper (Unit {0}) (256 ^ width) e fit in
-    let back : entriesBytes width (entries width b) ≡ b =
-        bytes-entries width (length b / (width + 1)) b w (whole .full)
-        (subst (All (Fits ⊥ (256 ^ width))) (sym (found .1)) (proper-fits (256 ^ width) e proper)) in
-    let count : size e ≡ length b / (width + 1) = sym (length-postfix e) ∙ ap length (sym (found .1)) ∙ length-read width b in
-    (e, record { bodied = record { proper = proper; few = omega (arith, whole .most) }; same = sym back ∙ ap (entriesBytes width) (found .1) })
+    let fit = proper-fits (256 ^ width) e (found .1 .bodied .proper) in
+    let back = bytes-entries width (length b / (width + 1)) b w (whole .full) (rw (sym (found .1 .read)) at fit) in
+    (e, record { bodied = found .1 .bodied; same = sym back ∙ ap (entriesBytes width) (found .1 .read) })
 
 pub accepted-exactly : (width : ℕ) → 1 ≤ width → AcceptedExactly width
-accepted-exactly width w b h =
-    ( sound-pattern width b h
-    , λ f. ap (checkOf width) (f .1 .same) ∙ encode-sound width w (f .0) (f .1 .bodied)
-    )
+accepted-exactly width w b h = (
+  sound-pattern width b h,
+  λ f. ap (checkOf width) (f .1 .same) ∙ encode-sound width w (f .0) (f .1 .bodied),
+)
 
 -- the machine that builds the tree again
 abbrev builder : Machine
-builder = record
-  { X = Pattern
-  ; G = Unit {0}
-  ; onLetter = λ n g. (event n, g)
-  ; onPair = λ op x y g. (pair op x y, g)
-  ; onWithin = λ n x g. (within x n, g)
-  }
+builder = record {
+  X = Pattern;
+  G = Unit {0};
+  onLetter = λ n g. (event n, g);
+  onPair = λ op x y g. (pair op x y, g);
+  onWithin = λ n x g. (within x n, g);
+}
 
 built : (e : Pattern) → eval builder e tt ≡ (e, tt)
 unfolding eval
@@ -145,10 +156,10 @@ lowest-refused width b i c l =
     check-by width b (counted-sized width (length b) c) ∙ ap (verdict 0) (lowest-scan (entries width b) i l)
 
 pub refused-size : (width : ℕ) → RefusedSize width
-refused-size width b =
-    ( λ p c. true-or-false (sized width (length b)) (counted-sized width (length b) c) (size-part width b p)
-    , λ n. check-size width b (not-true (sized width (length b)) (λ p. n (sized-counted width (length b) p)))
-    )
+refused-size width b = (
+  λ p c. true-or-false (sized width (length b)) (counted-sized width (length b) c) (size-part width b p),
+  λ n. check-size width b (not-true (sized width (length b)) (λ p. n (sized-counted width (length b) p))),
+)
 
 pub answered : (width : ℕ) → Answered width
 answered width b = go (sized width (length b)) (scan (entries width b) 0 0) refl refl

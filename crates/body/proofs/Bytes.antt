@@ -1,7 +1,7 @@
 -- Numbers and their bytes, each law by one induction on the number of bytes. Assumes nothing.
 use Prim.Native.Nat.{ℕ, zero, suc, _+_, _*_, _/_, _%_, _<_, _≤_, _^_}
 use mathlib.Core.Path.{_≡_, refl, sym, ap, ap₂, _∙_}
-use mathlib.Core.List.{List, [], _∷_, _++_}
+use mathlib.Core.List.{List, _∷_, _++_}
 use native.Mathlib.Nat.{pow-suc}
 use native.Mathlib.Numerals.{add-one}
 use native.Mathlib.Omega.{arith}
@@ -39,7 +39,7 @@ value-bytes (suc width) n rest h =
     let p : 256 ^ suc width ≡ 256 ^ width * 256 = pow-suc 256 width in
     let tail : List ℕ = bytesOf width (n / 256) ++ rest in
     let q : valueAt width (n % 256 ∷ tail) 1 ≡ n / 256 =
-        value-drop width (n % 256 ∷ tail) 1 0 ∙ value-bytes width (n / 256) rest (omega arith) in
+    value-drop width (n % 256 ∷ tail) 1 0 ∙ value-bytes width (n / 256) rest (omega arith) in
     omega arith
 
 low : (x y : ℕ) → x < 256 → (x + 256 * y) % 256 ≡ x

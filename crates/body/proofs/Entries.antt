@@ -1,17 +1,16 @@
 -- Bytes and entries: each gives the other back. An entry is read from its own bytes, and the entries after it from what follows them.
 -- Assumes nothing.
-use Prim.Native.Nat.{ℕ, zero, suc, _+_, _*_, _-_, _/_, _<_, _≤_, _^_}
+use Prim.Native.Nat.{ℕ, zero, suc, _+_, _*_, _<_, _≤_, _^_}
 use mathlib.Core.Path.{_≡_, refl, sym, ap, ap₂, subst, _∙_}
 use mathlib.Core.Bool.{Bool, true, false, cond}
 use mathlib.Core.List.{List, [], _∷_, _++_}
-use native.Mathlib.Nat.{zero-mul, suc-mul, one-mul, add-mul, pow-le-pow-right}
+use native.Mathlib.Nat.{zero-mul, pow-le-pow-right}
 use native.Mathlib.Numerals.{add-one}
 use native.Mathlib.Omega.{arith}
 use lib.Dec.{eqb, ltb}
 use lib.ListN.{length, getD, take, drop, length-append, length-drop, take-append-drop}
 use lib.Seq.{getD-drop, drop-at}
 use borrow.Author.Tests.{lt-ltb, eqb-true, eqb-false, ltb-true}
-use Rattle.rules.specs.declared.Op.{Op}
 use Rattle.rules.specs.declared.Op.the-variants.{Either, Both, Without, Chain}
 use Rattle.rules.specs.Limits.{letters}
 use Rattle.rules.specs.Lists.{All}
@@ -96,13 +95,13 @@ entries-bytes width w (s ∷ ss) h =
     ∙ entries-bytes width w ss (h .1))
 
 -- what is read fits, or breaks a rule by itself
-entry-fits : (width op argument : ℕ) → Fits (Unit {0}) (256 ^ width) (entryOf width op argument)
+pub entry-fits : (width op argument : ℕ) → Fits (Unit {0}) (256 ^ width) (entryOf width op argument)
 unfolding entryOf
 entry-fits width op argument = go (eqb op 0) (ltb argument 32) (ltb op 5) (eqb argument 0) (eqb op 5) (ltb argument (256 ^ width)) refl refl
   where
     go : (t₁ t₂ t₃ t₄ t₅ t₆ : Bool) → ltb argument 32 ≡ t₂ → ltb argument (256 ^ width) ≡ t₆
         → Fits (Unit {0}) (256 ^ width)
-          (cond t₁ (cond t₂ (Letter argument) Wrong) (cond t₃ (cond t₄ (Pair (opOf op)) Wrong) (cond t₅ (cond t₆ (Within argument) Wrong) Wrong)))
+        (cond t₁ (cond t₂ (Letter argument) Wrong) (cond t₃ (cond t₄ (Pair (opOf op)) Wrong) (cond t₅ (cond t₆ (Within argument) Wrong) Wrong)))
     go true true t₃ t₄ t₅ t₆ p q = ltb-true argument 32 p
     go true false t₃ t₄ t₅ t₆ p q = tt
     go false t₂ true true t₅ t₆ p q = tt
@@ -111,10 +110,15 @@ entry-fits width op argument = go (eqb op 0) (ltb argument 32) (ltb op 5) (eqb a
     go false t₂ false t₄ true false p q = tt
     go false t₂ false t₄ false t₆ p q = tt
 
-pub entries-fit : (width : ℕ) (b : List ℕ) (i n : ℕ) → All (Fits (Unit {0}) (256 ^ width)) (entriesBy (entryAt width b) i n)
-unfolding entriesBy entryAt
-entries-fit width b i zero = tt
-entries-fit width b i (suc n) = (entry-fits width _ _, entries-fit width b (i + 1) n)
+pub entries-fit : (wrong : Type 0) (bound : ℕ) (f : ℕ → Entry) → ((i : ℕ) → Fits wrong bound (f i)) → (i n : ℕ)
+    → All (Fits wrong bound) (entriesBy f i n)
+unfolding entriesBy
+entries-fit wrong bound f h i zero = tt
+entries-fit wrong bound f h i (suc n) = (h i, entries-fit wrong bound f h (i + 1) n)
+
+pub read-fits : (width : ℕ) (b : List ℕ) (i : ℕ) → Fits (Unit {0}) (256 ^ width) (entryAt width b i)
+unfolding entryAt
+read-fits width b i = entry-fits width _ _
 
 -- an op number from 1 to 4 is that of its operator
 op-number : (op : ℕ) → (op ≡ 0 → ⊥) → op < 5 → opNumber (opOf op) ≡ op
@@ -140,10 +144,10 @@ bytes-entry width op argument f =
   where
     go : (t₁ t₂ t₃ t₄ t₅ t₆ : Bool) → eqb op 0 ≡ t₁ → ltb op 5 ≡ t₃ → eqb argument 0 ≡ t₄ → eqb op 5 ≡ t₅
         → Fits ⊥ (256 ^ width)
-          (cond t₁ (cond t₂ (Letter argument) Wrong) (cond t₃ (cond t₄ (Pair (opOf op)) Wrong) (cond t₅ (cond t₆ (Within argument) Wrong) Wrong)))
+        (cond t₁ (cond t₂ (Letter argument) Wrong) (cond t₃ (cond t₄ (Pair (opOf op)) Wrong) (cond t₅ (cond t₆ (Within argument) Wrong) Wrong)))
         → entryBytes width
-          (cond t₁ (cond t₂ (Letter argument) Wrong) (cond t₃ (cond t₄ (Pair (opOf op)) Wrong) (cond t₅ (cond t₆ (Within argument) Wrong) Wrong)))
-          ≡ op ∷ bytesOf width argument
+        (cond t₁ (cond t₂ (Letter argument) Wrong) (cond t₃ (cond t₄ (Pair (opOf op)) Wrong) (cond t₅ (cond t₆ (Within argument) Wrong) Wrong)))
+        ≡ op ∷ bytesOf width argument
     go true true t₃ t₄ t₅ t₆ p q r s f = ap (λ (o : ℕ). o ∷ bytesOf width argument) (sym (eqb-true op 0 p))
     go true false t₃ t₄ t₅ t₆ p q r s f = absurd f
     go false t₂ true true t₅ t₆ p q r s f =
@@ -163,11 +167,11 @@ bytes-entries width (suc n) [] w l f = absurd (omega arith)
 bytes-entries width (suc n) (x ∷ b) w l f =
     let c : List ℕ = x ∷ b in
     let first : entryBytes width (entryAt width c 0) ≡ x ∷ take width b =
-        rw (first-entry width c)
-        (bytes-entry width x (valueAt width c 1) (subst (Fits ⊥ (256 ^ width)) (first-entry width c) (f .0))
-        ∙ ap (λ (r : List ℕ). x ∷ r) (bytes-value width c 1 w (omega arith))) in
+    rw (first-entry width c)
+    (bytes-entry width x (valueAt width c 1) (subst (Fits ⊥ (256 ^ width)) (first-entry width c) (f .0))
+    ∙ ap (λ (r : List ℕ). x ∷ r) (bytes-value width c 1 w (omega arith))) in
     let rest : entriesBytes width (entriesBy (entryAt width c) 1 n) ≡ drop (width + 1) c =
-        ap (entriesBytes width) (entries-next width c 0 n)
-        ∙ bytes-entries width n (drop (width + 1) c) (λ k. rw (getD-drop (width + 1) c k 0) (w (width + 1 + k)))
-          (simp length-drop (omega arith)) (subst (All (Fits ⊥ (256 ^ width))) (entries-next width c 0 n) (f .1)) in
+    ap (entriesBytes width) (entries-next width c 0 n)
+    ∙ bytes-entries width n (drop (width + 1) c) (λ k. rw (getD-drop (width + 1) c k 0) (w (width + 1 + k)))
+    (simp length-drop (omega arith)) (subst (All (Fits ⊥ (256 ^ width))) (entries-next width c 0 n) (f .1)) in
     rw (first, rest, add-one width) (ap (λ (r : List ℕ). x ∷ r) (take-append-drop width b))

@@ -1,5 +1,5 @@
 -- The length of a body: what the test of its length says, and what the check's answer says of it. Assumes nothing.
-use Prim.Native.Nat.{ℕ, _+_, _*_, _/_, _%_, _<_, _≤_}
+use Prim.Native.Nat.{ℕ, _+_, _*_, _/_, _%_, _≤_}
 use mathlib.Core.Path.{_≡_, refl}
 use mathlib.Core.Bool.{Bool, true, false, cond}
 use mathlib.Core.List.{List}
@@ -11,7 +11,6 @@ use lib.ListN.{length}
 use borrow.Author.Tests.{eq-eqb, le-leb, eqb-true, leb-true}
 use Rattle.rules.specs.Limits.{mostEntries}
 use Rattle.refusal.specs.declared.Refusal.the-variants.{Size, Body}
-use Rattle.body.specs.declared.BodyCheck.{BodyCheck}
 use Rattle.body.specs.declared.BodyCheck.the-variants.{Sound, Refused}
 use Rattle.body.specs.Entry.{entries}
 use Rattle.body.specs.Check.{scan, sized, verdict, checkOf}
@@ -28,11 +27,11 @@ sized-whole width n p = go (eqb (n % (width + 1)) 0) (leb (width + 1) n) (leb n 
   where
     go : (t₁ t₂ t₃ : Bool) → eqb (n % (width + 1)) 0 ≡ t₁ → leb (width + 1) n ≡ t₂ → leb n (mostEntries * (width + 1)) ≡ t₃
         → cond t₁ (cond t₂ t₃ false) false ≡ true → Whole width n
-    go true true true p q r h = record
-      { full = omega (arith, div-add-mod n (width + 1), eqb-true (n % (width + 1)) 0 p)
-      ; least = le-div-iff-mul-le {k = width + 1} {x = 1} {y = n} (omega arith) .1 (omega (arith, leb-true (width + 1) n q))
-      ; most = div-le-of-le-mul (width + 1) {m = n} {n = 63} (omega (arith, leb-true n (mostEntries * (width + 1)) r))
-      }
+    go true true true p q r h = record {
+      full = omega (arith, div-add-mod n (width + 1), eqb-true (n % (width + 1)) 0 p);
+      least = le-div-iff-mul-le {k = width + 1} {x = 1} {y = n} (omega arith) .1 (omega (arith, leb-true (width + 1) n q));
+      most = div-le-of-le-mul (width + 1) {m = n} {n = 63} (omega (arith, leb-true n (mostEntries * (width + 1)) r));
+    }
     go true true false p q r h = let z : _≡_ {A = ℕ} 0 1 = cc in absurd (omega arith)
     go true false t₃ p q r h = let z : _≡_ {A = ℕ} 0 1 = cc in absurd (omega arith)
     go false t₂ t₃ p q r h = let z : _≡_ {A = ℕ} 0 1 = cc in absurd (omega arith)

@@ -32,7 +32,7 @@ pub stack-set : (a : List ℕ) (d v : ℕ) → d < length a → stack (set a d v
 stack-set a d v h =
     stack-push (λ (k : ℕ). getD (set a d v) k 0) d
     ∙ ap₂ (λ (x : ℕ) (l : List ℕ). x ∷ l) (getD-set-same a d v 0 h)
-      (stack-ext (λ (k : ℕ). getD (set a d v) k 0) (λ (k : ℕ). getD a k 0) d (λ k l. getD-set-other a d k v 0 (omega arith)))
+    (stack-ext (λ (k : ℕ). getD (set a d v) k 0) (λ (k : ℕ). getD a k 0) d (λ k l. getD-set-other a d k v 0 (omega arith)))
 
 -- one array: a store in place of two operands
 pub stack-set2 : (a : List ℕ) (d v : ℕ) → 2 ≤ d → d ≤ length a → stack (set a (d - 2) v) (d - 1) ≡ v ∷ stack a (d - 2)

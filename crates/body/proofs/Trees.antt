@@ -1,7 +1,7 @@
 -- Entries and trees: the entries of a tree pass the check, and any entries either are those of one tree or have a lowest one that
 -- breaks a rule. By induction on the entries, with the trees found so far. Assumes nothing.
 use Prim.Native.Nat.{ℕ, suc, _+_, _-_, _≤_}
-use mathlib.Core.Path.{_≡_, refl, sym, ap, _∙_}
+use mathlib.Core.Path.{_≡_, refl, sym, ap, subst, _∙_}
 use mathlib.Core.Logic.{inl, inr, ⊎-elim}
 use mathlib.Core.List.{List, [], _∷_, _++_, append-assoc, append-nil}
 use mathlib.Core.Option.{Option, none, some}
@@ -60,14 +60,14 @@ pub fits-proper : (wrong : Type 0) (bound : ℕ) (e : Pattern) → All (Fits wro
 unfolding postfix
 fits-proper wrong bound (event n) h = h .0
 fits-proper wrong bound (pair op x y) h =
-    let t = all-right (Fits wrong bound) (postfix x) (postfix y ++ (Pair op ∷ [])) h in
-    ( fits-proper wrong bound x (all-left (Fits wrong bound) (postfix x) (postfix y ++ (Pair op ∷ [])) h)
-    , fits-proper wrong bound y (all-left (Fits wrong bound) (postfix y) (Pair op ∷ []) t)
+    let t = all-right (Fits wrong bound) (postfix x) (postfix y ++ (Pair op ∷ [])) h in (
+      fits-proper wrong bound x (all-left (Fits wrong bound) (postfix x) (postfix y ++ (Pair op ∷ [])) h),
+      fits-proper wrong bound y (all-left (Fits wrong bound) (postfix y) (Pair op ∷ []) t),
     )
-fits-proper wrong bound (within x n) h =
-    ( fits-proper wrong bound x (all-left (Fits wrong bound) (postfix x) (Within n ∷ []) h)
-    , all-right (Fits wrong bound) (postfix x) (Within n ∷ []) h .0
-    )
+fits-proper wrong bound (within x n) h = (
+  fits-proper wrong bound x (all-left (Fits wrong bound) (postfix x) (Within n ∷ []) h),
+  all-right (Fits wrong bound) (postfix x) (Within n ∷ []) h .0,
+)
 
 -- an operator that finds its operands
 scan-pair : (op : Op) (ss : List Entry) (i d : ℕ) → scan (Pair op ∷ ss) i (d + 1 + 1) ≡ scan ss (i + 1) (d + 1)
@@ -100,20 +100,21 @@ Outcome es none = (e : Pattern) × (es ≡ postfix e)
 Outcome es (some i) = Lowest es i
 
 -- the entry at i breaks a rule
-broken-at : (s : Entry) (ss : List Entry) (st : List Pattern) (i : ℕ) → i ≡ length (forest st) → Breaks s (length st) → Lowest (forest st ++ (s ∷ ss)) i
-broken-at s ss st i p h = record
-  { trees = st
-  ; whole = take-at (forest st) (s ∷ ss) i (sym p)
-  ; broken = inl (simp length-append (omega arith), rw (getD-at (forest st) s ss Wrong i (sym p)) h)
-  }
+broken-at : (s : Entry) (ss : List Entry) (st : List Pattern) (i : ℕ) → i ≡ length (forest st) → Breaks s (length st)
+    → Lowest (forest st ++ (s ∷ ss)) i
+broken-at s ss st i p h = record {
+  trees = st;
+  whole = take-at (forest st) (s ∷ ss) i (sym p);
+  broken = inl (simp length-append (omega arith), rw (getD-at (forest st) s ss Wrong i (sym p)) h);
+}
 
 -- several trees are left
 several-left : (st : List Pattern) (i : ℕ) → i ≡ length (forest st) → 2 ≤ length st → Lowest (forest st ++ []) i
-several-left st i p h = record
-  { trees = st
-  ; whole = take-at (forest st) [] i (sym p)
-  ; broken = inr (simp length-append (omega arith), h)
-  }
+several-left st i p h = record {
+  trees = st;
+  whole = take-at (forest st) [] i (sym p);
+  broken = inr (simp length-append (omega arith), h);
+}
 
 -- an entry passed is the last of the trees found so far
 module _ (s : Entry) (ss : List Entry) (es es′ : List Entry) (p : es′ ≡ es ++ (s ∷ [])) where
@@ -153,6 +154,12 @@ scan-outcome (Within n ∷ ss) (x ∷ st) i p h =
     (scan-outcome ss t′ (i + 1) (next-place (Within n) ss (forest t) (forest t′) g i p) (omega arith)))
 scan-outcome (Wrong ∷ ss) st i p h = broken-at Wrong ss st i p tt
 
+-- entries that pass are those of a tree
+pub scan-tree : (es : List Entry) → scan es 0 0 ≡ none → (e : Pattern) × (es ≡ postfix e)
+unfolding scan forest
+scan-tree [] p = let z : _≡_ {A = ℕ} 0 1 = cc in absurd (omega arith)
+scan-tree (s ∷ ss) p = subst (Outcome (s ∷ ss)) p (scan-outcome (s ∷ ss) [] 0 refl (omega arith))
+
 pub lowest-le : (es : List Entry) (i : ℕ) → Lowest es i → i ≤ length es
 lowest-le es i l = ⊎-elim (λ h. omega (arith, h .0)) (λ h. omega (arith, h .0)) (l .broken)
 
@@ -185,10 +192,10 @@ lowest-scan es i l =
     let place : length (forest (l .trees)) ≡ i = ap length (sym (l .whole)) ∙ length-take-le i es (lowest-le es i l) in
     let split : es ≡ forest (l .trees) ++ drop i es = sym (take-append-drop i es) ∙ ap (λ (p : List Entry). p ++ drop i es) (l .whole) in
     let rest : scan (drop i es) i d ≡ some i =
-        ⊎-elim
-        (λ h. rw (drop-cons es i Wrong (h .0)) (scan-breaks (getD es i Wrong) (drop (suc i) es) i d (h .1)))
-        (λ h. rw (drop-of-length-le es {i = i} (omega (arith, h .0))) (scan-several i d (h .1)))
-        (l .broken) in
+    ⊎-elim
+    (λ h. rw (drop-cons es i Wrong (h .0)) (scan-breaks (getD es i Wrong) (drop (suc i) es) i d (h .1)))
+    (λ h. rw (drop-of-length-le es {i = i} (omega (arith, h .0))) (scan-several i d (h .1)))
+    (l .broken) in
     ap (λ (r : List Entry). scan r 0 0) split
     ∙ scan-forest (l .trees) (drop i es)
     ∙ ap (λ (j : ℕ). scan (drop i es) j d) place

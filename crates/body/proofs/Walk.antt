@@ -1,6 +1,6 @@
 -- A walk over the entries of a sound body, from any source, a turn at a time. Assumes nothing.
-use Prim.Native.Nat.{ℕ, _+_, _-_, _*_, _/_, _%_, _≤_, _<_}
-use mathlib.Core.Path.{_≡_, refl, sym, ap, _∙_}
+use Prim.Native.Nat.{ℕ, _+_, _-_, _*_, _/_, _≤_, _<_}
+use mathlib.Core.Path.{_≡_, refl, sym, _∙_}
 use mathlib.Core.Bool.{Bool, true, false, cond}
 use mathlib.Core.List.{List}
 use mathlib.Core.Option.{Option, none, some}
@@ -11,13 +11,16 @@ use lib.ListN.{length}
 use borrow.Author.Tests.{leb-true, eqb-true}
 use Rattle.rules.specs.declared.Op.{Op}
 use Rattle.rules.specs.Limits.{mostEntries}
+use Rattle.rules.specs.Pattern.{Pattern}
 use Rattle.body.specs.declared.Entry.{Entry}
 use Rattle.body.specs.declared.Entry.the-variants.{Letter, Pair, Within, Wrong}
 use Rattle.body.specs.declared.Depth.the-variants.{Lacks, To}
-use Rattle.body.specs.declared.BodyCheck.the-variants.{Sound, Refused}
+use Rattle.body.specs.declared.BodyCheck.the-variants.{Sound}
 use Rattle.body.specs.Entry.{entryAt, entriesBy, entries}
+use Rattle.body.specs.Postfix.{postfix}
 use Rattle.body.specs.Check.{onDepth, depthOf, scan, checkOf}
 use Rattle.body.specs.Machine.{Machine, step, run}
+use Rattle.body.proofs.Trees.{scan-tree}
 use Rattle.body.proofs.Sizes.{sized-whole, sound-parts}
 use Rattle.body.proofs.Scan.{left-suc, left-zero, scan-turn, scan-end}
 
@@ -73,6 +76,10 @@ module _ (f : ℕ → Entry) (n i d : ℕ) (h : i < n) (r : Rest f n i d) where
   pub rest-wrong : f i ≡ Wrong → ⊥
   unfolding depthOf
   rest-wrong e = not-none i (turned Wrong e)
+
+-- entries that break no rule are those of a tree
+pub rest-tree : (f : ℕ → Entry) (n : ℕ) → Rest f n 0 0 → (e : Pattern) × (entriesBy f 0 n ≡ postfix e)
+rest-tree f n r = scan-tree (entriesBy f 0 n) (rw (sub-zero n) at r)
 
 -- where the walk over a sound body begins
 pub record Start (width : ℕ) (b : List ℕ) : Type 0 where

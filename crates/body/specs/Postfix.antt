@@ -1,6 +1,5 @@
 -- The body of a pattern: the tree in postfix order (document 01, "Pattern text and body"). Assumes nothing: these are definitions.
 use Prim.Native.Nat.{ℕ, _≤_, _^_}
-use mathlib.Core.Path.{_≡_}
 use mathlib.Core.List.{List, [], _∷_, _++_}
 use Rattle.rules.specs.Limits.{mostEntries}
 use Rattle.rules.specs.Pattern.{Pattern, event, pair, within, size, Proper}

@@ -1,4 +1,5 @@
 -- `body::decode` meets its contract: it makes the tests of `entryOf` in their order. Assumes nothing.
+use native.Mathlib.Omega.{arith}
 use borrow.Author.Tests.{lt-ltb, le-ltb, eq-eqb, ne-eqb}
 use Rattle.body.specs.Entry.{entryOf}
 use borrow.Author.Needs.{needs}
@@ -7,11 +8,11 @@ use Rattle.body.proofs.decode.Tie as tie
 
 returns : tie.Need-returns
 unfolding entryOf
-returns c = simp (eq-eqb _ _ (c .before .if1 .taken), lt-ltb _ _ (c .if2 .taken))
+returns c = simp (eq-eqb _ _ (c .before .if1 .taken), lt-ltb (c .before .before .args .argument) 32 (omega arith))
 
 returns-2 : tie.Need-returns-2
 unfolding entryOf
-returns-2 c = simp (eq-eqb _ _ (c .before .if1 .taken), le-ltb _ _ (c .if2 .left))
+returns-2 c = simp (eq-eqb _ _ (c .before .if1 .taken), le-ltb (c .before .before .args .argument) 32 (omega arith))
 
 op-of-requires : tie.Need-op-of-requires
 op-of-requires c κs = search needs
@@ -32,11 +33,23 @@ returns-4 c = simp (ne-eqb _ _ (c .before .before .if1 .left), lt-ltb _ _ (c .be
 
 returns-5 : tie.Need-returns-5
 unfolding entryOf
-returns-5 c = simp (ne-eqb _ _ (c .before .before .before .if1 .left), le-ltb _ _ (c .before .before .if3 .left), eq-eqb _ _ (c .before .if5 .taken), lt-ltb _ _ (c .if6 .taken))
+returns-5 c =
+    simp (
+      ne-eqb _ _ (c .before .before .before .if1 .left),
+      le-ltb _ _ (c .before .before .if3 .left),
+      eq-eqb _ _ (c .before .if5 .taken),
+      lt-ltb _ _ (c .if6 .taken),
+    )
 
 returns-6 : tie.Need-returns-6
 unfolding entryOf
-returns-6 c = simp (ne-eqb _ _ (c .before .before .before .if1 .left), le-ltb _ _ (c .before .before .if3 .left), eq-eqb _ _ (c .before .if5 .taken), le-ltb _ _ (c .if6 .left))
+returns-6 c =
+    simp (
+      ne-eqb _ _ (c .before .before .before .if1 .left),
+      le-ltb _ _ (c .before .before .if3 .left),
+      eq-eqb _ _ (c .before .if5 .taken),
+      le-ltb _ _ (c .if6 .left),
+    )
 
 returns-7 : tie.Need-returns-7
 unfolding entryOf

@@ -1,4 +1,5 @@
 -- `body::depth_after` meets its contract: each arm is the case of `depthOf`. Assumes nothing.
+use native.Mathlib.Omega.{arith}
 use borrow.Author.Tests.{le-leb, lt-leb}
 use Rattle.body.specs.Check.{depthOf}
 use borrow.Author.Needs.{needs}
@@ -29,19 +30,19 @@ returns c = rw (c .enum-told .given .1)
 
 returns-2 : tie.Need-returns-2
 unfolding depthOf
-returns-2 c = rw (c .before .enum-told2 .given .1, le-leb _ _ (c .if1 .taken))
+returns-2 c = rw (c .before .enum-told2 .given .1, le-leb 2 (c .before .before .before .args .d) (omega arith))
 
 returns-3 : tie.Need-returns-3
 unfolding depthOf
-returns-3 c = rw (c .before .enum-told2 .given .1, lt-leb _ _ (c .if1 .left))
+returns-3 c = rw (c .before .enum-told2 .given .1, lt-leb 2 (c .before .before .before .args .d) (omega arith))
 
 returns-4 : tie.Need-returns-4
 unfolding depthOf
-returns-4 c = rw (c .before .enum-told3 .given .1, le-leb _ _ (c .if2 .taken))
+returns-4 c = rw (c .before .enum-told3 .given .1, le-leb 1 (c .before .before .before .args .d) (omega arith))
 
 returns-5 : tie.Need-returns-5
 unfolding depthOf
-returns-5 c = rw (c .before .enum-told3 .given .1, lt-leb _ _ (c .if2 .left))
+returns-5 c = rw (c .before .enum-told3 .given .1, lt-leb 1 (c .before .before .before .args .d) (omega arith))
 
 returns-6 : tie.Need-returns-6
 unfolding depthOf
