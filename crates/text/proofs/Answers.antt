@@ -7,7 +7,7 @@ use lib.ListN.{length, take, drop, replicate, drop-of-length-le}
 use lib.Seq.{sets-eq, length-sets, take-at}
 use Rattle.rules.specs.Limits.{argumentBytes, mostEntries, mostText}
 use Rattle.body.specs.Postfix.{encode}
-use Rattle.text.specs.Grammar.{TextOf}
+use Rattle.body.proofs.Bodies.{length-encode}
 use Rattle.text.specs.Answer.{IsText, IsSyntax, IsMany, IsRoom, IsRead}
 use Rattle.text.specs.Machine.{run}
 use Rattle.text.specs.Machine.State.{have}
@@ -15,7 +15,6 @@ use Rattle.text.specs.Machine.Outcome.{whole}
 use Rattle.text.specs.Told.{entryLength, bodyLength, IsExpression, NoExpression}
 use Rattle.text.proofs.Steps.{run-no}
 use Rattle.text.proofs.Sound.{broken, text-of}
-use Rattle.text.proofs.Entries.{encode-length}
 
 module _ (s : List ℕ) (short : length s ≤ mostText) where
   pub stuck : {place : ℕ} → NoExpression s 0 place → IsSyntax s place
@@ -32,7 +31,7 @@ module _ (s : List ℕ) (short : length s ≤ mostText) where
         at-end = unfold run in ap (run (have (l .tree) [])) (drop-of-length-le s h)
 
     bytes : m * entryLength ≡ length (encode argumentBytes (l .tree))
-    bytes = omega (arith, l .count, encode-length argumentBytes (l .tree))
+    bytes = omega (arith, l .count, length-encode argumentBytes (l .tree))
 
     pub many-entries : length s ≤ end → mostEntries < m → IsMany s
     unfolding is-text

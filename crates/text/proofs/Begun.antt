@@ -9,7 +9,7 @@ use borrow.Author.Tests.{ltb-true, eqb-true}
 use Rattle.rules.specs.Limits.{letters}
 use Rattle.rules.specs.Pattern.{Pattern, event, pair, within, Proper}
 use Rattle.text.specs.Render.{numbers, opByte, digits, render}
-use Rattle.text.specs.Grammar.{TextOf, Begins}
+use Rattle.text.specs.Grammar.{Begins}
 use Rattle.text.specs.Machine.{Frame, State, Move, letterOf, digitOf, grows, step, afterSign}
 use Rattle.text.specs.Machine.Frame.{first, second}
 use Rattle.text.specs.Machine.State.{want, have, limit, number}

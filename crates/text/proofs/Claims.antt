@@ -45,10 +45,10 @@ body-printed : (b d : List ℕ) (e : Pattern) → BodyOf argumentBytes b e → l
 body-printed b d e h k = record { some = record { tree = e; body = h }; counts = refl; fits = k; written = refl }
 
 pub accepted-exactly : AcceptedExactly
-accepted-exactly s d d′ r a =
-    ( λ p. read (subst (ReadingOf s d d′) (p .1) a)
-    , λ p. (length (encode argumentBytes (p .0)), one-reading s d d′ _ r _ a (readable-read s d (p .0) (p .1)) .0)
-    )
+accepted-exactly s d d′ r a = (
+  λ p. read (subst (ReadingOf s d d′) (p .1) a),
+  λ p. (length (encode argumentBytes (p .0)), one-reading s d d′ _ r _ a (readable-read s d (p .0) (p .1)) .0),
+)
   where
     read : {bytes : ℕ} → ReadingOf s d d′ (Read bytes) → (e : Pattern) × Readable s d e
     read i = (i .some .tree, record { text = i .some .text; short = i .some .short; few = i .few; room = omega (arith, i .counts, i .fits) })
@@ -60,10 +60,10 @@ pub longest-prefix : LongestPrefix
 longest-prefix s d d′ place a = is-syntax (a .0) .broken
 
 pub syntax-exactly : SyntaxExactly
-syntax-exactly s d d′ r a =
-    ( λ p. let i = is-syntax (subst (ReadingOf s d d′) (p .1) a .0) in (i .short, i .broken .no-text)
-    , λ p. only r a (p .0) (p .1)
-    )
+syntax-exactly s d d′ r a = (
+  λ p. let i = is-syntax (subst (ReadingOf s d d′) (p .1) a .0) in (i .short, i .broken .no-text),
+  λ p. only r a (p .0) (p .1),
+)
   where
     only : (r : Reading) → ReadingOf s d d′ r → length s ≤ mostText → ((e : Pattern) → TextOf s e → ⊥) → (place : ℕ) × (r ≡ Refused (Syntax place))
     only (Read bytes) i short none = absurd (none (i .some .tree) (i .some .text))

@@ -1,6 +1,6 @@
 -- What reading and printing promise leaves no choice: the answer and what the lent slice holds follow from the arguments. Assumes nothing.
 use mathlib.Core.Path.{_≡_, refl, sym, ap, ap₂, _∙_}
-use Prim.Native.Nat.{ℕ, _-_, _<_, _≤_}
+use Prim.Native.Nat.{ℕ, _-_, _≤_}
 use native.Mathlib.Omega.{arith}
 use mathlib.Core.Bool.{cond}
 use mathlib.Core.List.{List, [], _++_}
@@ -17,8 +17,8 @@ use Rattle.body.specs.Check.{checkOf}
 use Rattle.body.specs.Claim.{BodyOf}
 use Rattle.body.proofs.Bodies.{encode-sound, one-pattern as one-tree}
 use Rattle.text.specs.Render.{render}
-use Rattle.text.specs.Grammar.{TextOf, Broken}
-use Rattle.text.specs.Answer.{IsText, IsRead, IsPrinted, ReadingOf, PrintingOf}
+use Rattle.text.specs.Grammar.{Broken}
+use Rattle.text.specs.Answer.{IsText, ReadingOf, PrintingOf}
 use Rattle.text.specs.Answer.RefusedText.{long, syntax, many, room}
 use Rattle.text.specs.Answer.RefusedBody.{unsound, room as text-room}
 use Rattle.text.specs.Claim.{OneReading, OnePrinting}
@@ -75,7 +75,10 @@ module _ (s d : List ℕ) where
   unfolding wholeOf readOf
   decided d′ (Read bytes) a =
       of-text (a .some)
-      ∙ simp (le-ltb mostEntries (size (a .some .tree)) (a .few), le-ltb (length d) (length (encode argumentBytes (a .some .tree))) (omega (arith, a .counts, a .fits)))
+      ∙ simp (
+        le-ltb mostEntries (size (a .some .tree)) (a .few),
+        le-ltb (length d) (length (encode argumentBytes (a .some .tree))) (omega (arith, a .counts, a .fits)),
+      )
       (ap₂ (λ (k : ℕ) (w : List ℕ). record { answer = Read k; slice = w }) (sym (a .counts))
       (ap (λ (k : ℕ). encode argumentBytes (a .some .tree) ++ drop k d) (sym (a .counts)) ∙ sym (a .written)))
   decided d′ (Unread r) (long a, k) = kept k (simp (lt-ltb mostText (length s) (a .long)))
@@ -83,7 +86,10 @@ module _ (s d : List ℕ) where
   decided d′ (Unread r) (many a, k) = kept k (of-text (a .some) ∙ simp (lt-ltb mostEntries (size (a .some .tree)) (a .many)))
   decided d′ (Unread r) (room a, k) =
       kept k (of-text (a .some)
-      ∙ simp (le-ltb mostEntries (size (a .some .tree)) (a .few), lt-ltb (length d) (length (encode argumentBytes (a .some .tree))) (omega (arith, a .needs, a .lacks)))
+      ∙ simp (
+        le-ltb mostEntries (size (a .some .tree)) (a .few),
+        lt-ltb (length d) (length (encode argumentBytes (a .some .tree))) (omega (arith, a .needs, a .lacks)),
+      )
       (ap (λ (k : ℕ). record { answer = Unread (Room k); slice = d }) (sym (a .needs))))
 
 pub one-reading : OneReading

@@ -1,21 +1,21 @@
 -- Entries written one after another, and what is copied. Assumes nothing.
 use mathlib.Core.Path.{_≡_, refl, sym, ap, _∙_}
-use Prim.Native.Nat.{ℕ, zero, suc, _+_, _*_, _/_, _<_, _≤_}
+use Prim.Native.Nat.{ℕ, suc, _+_, _*_, _<_, _≤_}
 use native.Mathlib.Omega.{arith}
 use native.Mathlib.Numerals.{add-one}
 use native.Mathlib.Nat.{add-zero, add-suc, suc-add}
 use mathlib.Core.List.{List, [], _∷_, _++_, append-assoc, append-nil}
-use lib.ListN.{length, getD, take, drop, set, length-set, length-append}
+use lib.ListN.{length, getD, take, drop, set, length-set}
 use lib.Seq.{sets, set-out, length-sets, set-at, length-take-le, take-suc, drop-cons, append-snoc}
 use Rattle.rules.specs.declared.Op.{Op}
 use Rattle.rules.specs.Limits.{argumentBytes}
 use Rattle.rules.specs.Pattern.{Pattern, event, pair, within, size}
 use Rattle.body.specs.declared.Entry.{Entry}
-use Rattle.body.specs.declared.Entry.the-variants.{Letter, Pair, Within, Wrong}
-use Rattle.body.specs.Bytes.{bytesOf}
+use Rattle.body.specs.declared.Entry.the-variants.{Letter, Pair, Within}
 use Rattle.body.specs.Entry.{entryBytes, entriesBytes}
 use Rattle.body.specs.Postfix.{postfix, encode}
-use Rattle.text.specs.Told.{Written, Rest, by, upTo, join, restEncode, restSize, entryLength, bodyLength}
+use Rattle.body.proofs.Bodies.{length-encode}
+use Rattle.text.specs.Told.{Written, Rest, by, upTo, join, restEncode, restSize, entryLength}
 
 -- a run of stores past the end changes nothing
 pub sets-out : (l : List ℕ) (i : ℕ) (vs : List ℕ) → length l ≤ i → sets l i vs ≡ l
@@ -28,18 +28,6 @@ sets-append l i [] ws = rw add-zero
 sets-append l i (a ∷ vs) ws =
     sets-append (set l i a) (suc i) vs ws
     ∙ ap (λ (k : ℕ). sets (sets (set l i a) (suc i) vs) k ws) (suc-add i (length vs) ∙ sym (add-suc i (length vs)))
-
-bytes-length : (width n : ℕ) → length (bytesOf width n) ≡ width
-unfolding bytesOf
-bytes-length zero n = refl
-bytes-length (suc width) n = ap suc (bytes-length width (n / 256))
-
-entry-length : (width : ℕ) (s : Entry) → length (entryBytes width s) ≡ width + 1
-unfolding entryBytes
-entry-length width (Letter n) = omega (arith, bytes-length width n)
-entry-length width (Pair op) = omega (arith, bytes-length width 0)
-entry-length width (Within n) = omega (arith, bytes-length width n)
-entry-length width Wrong = omega (arith, bytes-length width 0)
 
 entries-append : (width : ℕ) (ss ts : List Entry) → entriesBytes width (ss ++ ts) ≡ entriesBytes width ss ++ entriesBytes width ts
 unfolding entriesBytes
@@ -70,13 +58,6 @@ module _ (width : ℕ) where
       entries-append width (postfix x) (Within n ∷ [])
       ∙ ap (λ (l : List ℕ). entriesBytes width (postfix x) ++ l) (entries-one width (Within n))
 
-  pub encode-length : (e : Pattern) → length (encode width e) ≡ size e * (width + 1)
-  unfolding size
-  encode-length (event n) = simp (encode-event n) (omega (arith, entry-length width (Letter n)))
-  encode-length (pair op x y) =
-      simp (encode-pair op x y, length-append) (omega (arith, encode-length x, encode-length y, entry-length width (Pair op)))
-  encode-length (within x n) = simp (encode-within x n, length-append) (omega (arith, encode-length x, entry-length width (Within n)))
-
 pub encode-join : (x : Pattern) (r : Rest) → encode argumentBytes (join x r) ≡ encode argumentBytes x ++ restEncode r
 encode-join x (by op y) = encode-pair argumentBytes op x y
 encode-join x (upTo n) = encode-within argumentBytes x n
@@ -92,7 +73,7 @@ pub written-after : (d d₁ d₂ : List ℕ) (n m : ℕ) (x : Pattern) (bytes : 
 written-after d d₁ d₂ n m x bytes count one two len =
     two (ap length (one len) ∙ length-sets d (n * entryLength) (encode argumentBytes x) ∙ len)
     ∙ ap (λ (l : List ℕ). sets l (m * entryLength) bytes) (one len)
-    ∙ ap (λ (k : ℕ). sets (sets d (n * entryLength) (encode argumentBytes x)) k bytes) (omega (arith, encode-length argumentBytes x))
+    ∙ ap (λ (k : ℕ). sets (sets d (n * entryLength) (encode argumentBytes x)) k bytes) (omega (arith, length-encode argumentBytes x))
     ∙ sym (sets-append d (n * entryLength) (encode argumentBytes x) bytes)
 
 -- the first i bytes of s over those of d₀

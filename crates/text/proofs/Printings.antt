@@ -1,9 +1,9 @@
 -- The ways that `print_pattern` goes: one lemma for each answer. Assumes nothing.
 use mathlib.Core.Path.{_≡_, refl, sym, ap, _∙_}
-use Prim.Native.Nat.{ℕ, _+_, _-_, _*_, _/_, _<_, _≤_}
+use Prim.Native.Nat.{ℕ, _-_, _/_, _<_, _≤_}
 use native.Mathlib.Omega.{arith}
 use mathlib.Core.List.{List, [], _++_}
-use lib.ListN.{length, take, drop, replicate, length-append}
+use lib.ListN.{length, take, drop, replicate}
 use lib.Seq.{take-at, take-all}
 use Rattle.rules.specs.Limits.{argumentBytes}
 use Rattle.body.specs.declared.BodyCheck.the-variants.{Sound}
@@ -60,7 +60,8 @@ module _ (b : List ℕ) (w : Bytes b) (p : checkOf argumentBytes b ≡ Sound) wh
     no-room d h = record { some = is-body; needs = bytes; lacks = h }
 
     pub all-printed : (d d′ : List ℕ) → mostPrinted - byte ≤ length d
-        → d′ ≡ take (mostPrinted - byte) (take (mostPrinted - byte) (drop byte m)) ++ drop (mostPrinted - byte) d → IsPrinted b d d′ (mostPrinted - byte)
+        → d′ ≡ take (mostPrinted - byte) (take (mostPrinted - byte) (drop byte m)) ++ drop (mostPrinted - byte) d
+        → IsPrinted b d d′ (mostPrinted - byte)
     all-printed d d′ h q = record {
       some = is-body;
       counts = bytes;

@@ -1,17 +1,18 @@
 -- The ways that `write_tree` goes: the last entry says what tree it ends, and where its operands end. Assumes nothing.
 use mathlib.Core.Path.{_≡_, refl, sym, ap, _∙_, subst}
-use Prim.Native.Nat.{ℕ, zero, suc, _+_, _-_, _*_, _<_, _≤_}
+use Prim.Native.Nat.{ℕ, zero, suc, _+_, _-_, _<_, _≤_}
 use native.Mathlib.Omega.{arith}
 use mathlib.Core.List.{List, [], _∷_, _++_, append-assoc}
 use lib.ListN.{length, length-append}
 use Rattle.rules.specs.declared.Op.{Op}
 use Rattle.rules.specs.Limits.{letters, argumentBytes}
-use Rattle.rules.specs.Pattern.{Pattern, event, pair, within, size, Proper}
+use Rattle.rules.specs.Pattern.{Pattern, event, pair, within, Proper}
 use Rattle.body.specs.declared.Entry.{Entry}
 use Rattle.body.specs.declared.Entry.the-variants.{Letter, Pair, Within, Wrong}
 use Rattle.body.specs.Entry.{entriesBy, entryAt}
 use Rattle.body.specs.Postfix.{postfix}
 use Rattle.body.proofs.Trees.{size-pos, length-postfix}
+use Rattle.body.proofs.Bodies.{length-by}
 use Rattle.text.specs.Render.{numbers, mostPrinted, letterByte, opByte, digits, render}
 use Rattle.text.specs.Told.{Backward, NumberReady, Ends, TreeReady, IsTree, TreeWritten}
 use Rattle.text.proofs.Backwards.{before-back}
@@ -37,13 +38,7 @@ module _ (f : ℕ → Entry) where
       ap f (omega arith) ∙ last-entry (i + 1) n es s b
 
   count-entries : (i n : ℕ) (es : List Entry) → entriesBy f i n ≡ es → n ≡ length es
-  unfolding entriesBy
-  count-entries i zero [] q = refl
-  count-entries i zero (s ∷ es) q = let z : _≡_ {A = ℕ} 0 1 = cc in absurd (omega arith)
-  count-entries i (suc n) [] q = let z : _≡_ {A = ℕ} 0 1 = cc in absurd (omega arith)
-  count-entries i (suc n) (s ∷ es) q =
-      let b : entriesBy f (i + 1) n ≡ es = cc in
-      ap suc (count-entries (i + 1) n es b)
+  count-entries i n es q = sym (length-by f i n) ∙ ap length q
 
   last-of : (k : ℕ) (es : List Entry) (s : Entry) → entriesBy f 0 k ≡ es ++ (s ∷ [])
       → (k ≡ length es + 1) × (f (k - 1) ≡ s) × (entriesBy f 0 (k - 1) ≡ es)
@@ -86,7 +81,8 @@ ends-by b k others (event n) q =
     let u = last-of (entryAt argumentBytes b) k others (Letter n) q in
     subst (EndsBy b k others (event n)) (sym (u .1)) (record { tree = refl; count = u .0 })
 ends-by b k others (pair op x y) q =
-    let u = last-of (entryAt argumentBytes b) k (others ++ postfix x ++ postfix y) (Pair op) (q ∙ regroup others (postfix x) (postfix y) (Pair op ∷ [])) in
+    let split = q ∙ regroup others (postfix x) (postfix y) (Pair op ∷ []) in
+    let u = last-of (entryAt argumentBytes b) k (others ++ postfix x ++ postfix y) (Pair op) split in
     subst (EndsBy b k others (pair op x y)) (sym (u .1)) (record {
       left = x;
       right = y;
@@ -99,7 +95,8 @@ ends-by b k others (within x n) q =
     let u = last-of (entryAt argumentBytes b) k (others ++ postfix x) (Within n) (q ∙ sym (append-assoc others (postfix x) (Within n ∷ []))) in
     subst (EndsBy b k others (within x n)) (sym (u .1)) (record { left = x; tree = refl; ends = u .2 })
 
-ends-in : {s : Entry} (b : List ℕ) (k : ℕ) (others : List Entry) (e : Pattern) → s ≡ entryAt argumentBytes b (k - 1) → Ends b k others e → EndsBy b k others e s
+ends-in : {s : Entry} (b : List ℕ) (k : ℕ) (others : List Entry) (e : Pattern)
+    → s ≡ entryAt argumentBytes b (k - 1) → Ends b k others e → EndsBy b k others e s
 ends-in b k others e s q = subst (EndsBy b k others e) (sym s) (ends-by b k others e q)
 
 -- no tree ends with an entry that breaks a rule by itself
@@ -109,7 +106,8 @@ not-wrong b k end s r = ends-in b k (r .others) (r .tree) s (r .ends)
 -- there is an entry, and room for a byte
 pub some-entry : (b : List ℕ) (k end : ℕ) → TreeReady b k end → 0 < k
 some-entry b k end r =
-    omega (arith, count-entries (entryAt argumentBytes b) 0 k _ (r .ends), length-append (r .others) (postfix (r .tree)), length-postfix (r .tree), size-pos (r .tree))
+    let n = count-entries (entryAt argumentBytes b) 0 k _ (r .ends) in
+    omega (arith, length-append (r .others) (postfix (r .tree)), length-postfix (r .tree), size-pos (r .tree))
 
 render-some : (e : Pattern) → 0 < length (render e)
 render-some (event n) = omega arith

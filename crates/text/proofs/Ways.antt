@@ -1,6 +1,6 @@
 -- The ways that `expression` and `tail` go: one lemma for each way out of the code. Assumes nothing.
 use mathlib.Core.Path.{_≡_, refl, sym, ap, _∙_}
-use Prim.Native.Nat.{ℕ, _+_, _*_, _<_, _≤_}
+use Prim.Native.Nat.{ℕ, _+_, _<_, _≤_}
 use native.Mathlib.Omega.{arith}
 use mathlib.Core.List.{List, _∷_}
 use lib.ListN.{length, getD, drop}
@@ -9,9 +9,9 @@ use Rattle.rules.specs.declared.Op.{Op}
 use Rattle.rules.specs.declared.Op.the-variants.{Either, Both, Without, Chain}
 use Rattle.rules.specs.Limits.{letters, argumentBytes}
 use Rattle.rules.specs.Pattern.{Pattern, event, size}
-use Rattle.body.specs.declared.Entry.the-variants.{Letter, Pair, Within}
+use Rattle.body.specs.declared.Entry.the-variants.{Pair}
 use Rattle.body.specs.Bytes.{bytesOf}
-use Rattle.body.specs.Entry.{opNumber, entryBytes}
+use Rattle.body.specs.Entry.{entryBytes}
 use Rattle.text.specs.Machine.{Frame, Sign, letterOf, signOf, signNumber, run, shut, afterSign}
 use Rattle.text.specs.Machine.Frame.{first, second}
 use Rattle.text.specs.Machine.State.{want, have, limit}

@@ -1,8 +1,8 @@
 -- An inner device of the reader's proof, cited by no public contract: reading a text a byte at a time. What has been read so far is a
 -- state, and a byte either leads on or does not. Assumes nothing: these are definitions.
 use Prim.Native.Nat.{ℕ, _+_, _-_, _*_}
-use mathlib.Core.List.{List, [], _∷_, _++_}
-use mathlib.Core.Bool.{Bool, true, false, cond}
+use mathlib.Core.List.{List, [], _∷_}
+use mathlib.Core.Bool.{Bool, false, cond}
 use lib.Dec.{ltb, leb, eqb}
 use Rattle.rules.specs.declared.Op.{Op}
 use Rattle.rules.specs.declared.Op.the-variants.{Either, Both, Without, Chain}

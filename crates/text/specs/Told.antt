@@ -1,4 +1,5 @@
--- Inner devices: what the functions below `read_pattern` and `print_pattern` promise, cited by no public contract. Assumes nothing: these are definitions.
+-- Inner devices: what the functions below `read_pattern` and `print_pattern` promise, cited by no public contract.
+-- Assumes nothing: these are definitions.
 use Prim.Native.Nat.{ℕ, _+_, _*_, _<_, _≤_}
 use mathlib.Core.Path.{_≡_}
 use mathlib.Core.List.{List, _∷_, _++_}
@@ -13,10 +14,10 @@ use Rattle.body.specs.Entry.{entryBytes, entriesBy, entryAt}
 use Rattle.body.specs.Postfix.{postfix, encode}
 use Rattle.text.specs.Render.{numbers, mostPrinted, digits, render}
 use Rattle.text.specs.Machine.{Frame, first, run, shut, want, have, limit, stopped}
-use Rattle.text.specs.declared.Reach.{Reach}
-use Rattle.text.specs.declared.Reach.the-variants.{To, Stuck}
-use Rattle.text.specs.declared.Decimal.{Decimal}
-use Rattle.text.specs.declared.Decimal.the-variants.{Value, Bad}
+use Rattle.text.specs.declared.reader.Reach.{Reach}
+use Rattle.text.specs.declared.reader.Reach.the-variants.{To, Stuck}
+use Rattle.text.specs.declared.reader.Decimal.{Decimal}
+use Rattle.text.specs.declared.reader.Decimal.the-variants.{Value, Bad}
 
 -- the bytes of an entry, and of the longest body
 abbrev pub entryLength : ℕ

@@ -32,19 +32,34 @@ write-tree-requires : tie.Need-write-tree-requires
 write-tree-requires c κs = body-ready _ (bytes-are (c .before)) (sound-is (c .before))
 
 sub-need : tie.Need-sub-need
-sub-need c = begin-inside _ (bytes-are (c .before .before)) (sound-is (c .before .before)) (c .write-tree .ensures)
+sub-need c =
+    let e = c .before .before in
+    begin-inside _ (bytes-are e) (sound-is e) (c .write-tree .ensures)
 
 returns : tie.Need-returns
-returns c = (room (no-room _ (bytes-are (c .before .before .before)) (sound-is (c .before .before .before)) (c .before .write-tree .ensures) _ (omega arith)), refl)
+returns c =
+    let w = c .before in
+    let e = w .before .before in
+    (room (no-room _ (bytes-are e) (sound-is e) (w .write-tree .ensures) _ (omega arith)), refl)
 
 sub-copy : tie.Need-sub-copy
-sub-copy c = begin-inside _ (bytes-are (c .before .before .before .before)) (sound-is (c .before .before .before .before)) (c .before .before .write-tree .ensures)
+sub-copy c =
+    let w = c .before .before in
+    let e = w .before .before in
+    begin-inside _ (bytes-are e) (sound-is e) (w .write-tree .ensures)
 
 part-copy-start : tie.Need-part-copy-start
-part-copy-start c = begin-inside _ (bytes-are (c .before .before .before .before .before)) (sound-is (c .before .before .before .before .before)) (c .before .before .before .write-tree .ensures)
+part-copy-start c =
+    let w = c .before .before .before in
+    let e = w .before .before in
+    begin-inside _ (bytes-are e) (sound-is e) (w .write-tree .ensures)
 
 part-copy-end : tie.Need-part-copy-end
-part-copy-end c = let m = made-length _ (bytes-are (c .before .before .before .before .before)) (sound-is (c .before .before .before .before .before)) (c .before .before .before .write-tree .ensures) in omega arith
+part-copy-end c =
+    let w = c .before .before .before in
+    let e = w .before .before in
+    let m = made-length _ (bytes-are e) (sound-is e) (w .write-tree .ensures) in
+    omega arith
 
 copy-requires : tie.Need-copy-requires
 copy-requires c κs = search needs
@@ -56,7 +71,10 @@ same-length : tie.Need-same-length
 same-length c = search needs
 
 returns-3 : tie.Need-returns-3
-returns-3 c = all-printed _ (bytes-are (c .before .before .before .before .before .before .before .before .before)) (sound-is (c .before .before .before .before .before .before .before .before .before)) (c .before .before .before .before .before .before .before .write-tree .ensures) _ _ (omega arith) (c .before .before .copy .ensures)
+returns-3 c =
+    let w = c .before .before .before .before .before .before .before in
+    let e = w .before .before in
+    all-printed _ (bytes-are e) (sound-is e) (w .write-tree .ensures) _ _ (omega arith) (c .before .before .copy .ensures)
 
 pub print-pattern-spec : {M : Type 1} → statement M
 print-pattern-spec =

@@ -1,6 +1,6 @@
 -- `text::read_pattern` meets its contract. Assumes nothing.
 use native.Mathlib.Omega.{arith}
-use mathlib.Core.Path.{_≡_, refl, sym, ap, subst, _∙_}
+use mathlib.Core.Path.{refl, sym, subst}
 use Prim.Native.Nat.{_≤_}
 use lib.ListN.{length, replicate}
 use denote.Ref.{now}
@@ -54,7 +54,8 @@ copy-requires c κs =
 
 returns-5 : tie.Need-returns-5
 returns-5 c =
-    (syntax (stuck _ (omega arith) (subst (ExpressionAt _ _ _ _ _) (c .before .whole .given .1) (c .before .before .before .expression .ensures))), refl)
+    let no = subst (ExpressionAt _ _ _ _ _) (c .before .whole .given .1) (c .before .before .before .expression .ensures) in
+    (syntax (stuck _ (omega arith) no), refl)
 
 same-length : tie.Need-same-length
 same-length c = search needs

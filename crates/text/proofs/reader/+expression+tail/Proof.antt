@@ -1,26 +1,28 @@
--- The proof of the cycle of calls {expression, tail}. Each one's measure is the number of bytes left. Assumes nothing.
+-- `text::reader::expression` and `text::reader::tail`, which call each other, meet their contracts. Each one's measure is the number of
+-- bytes left to read. Assumes nothing.
 use borrow.Author.Needs.{needs}
 use native.Mathlib.Omega.{arith}
 use mathlib.Core.Path.{subst}
 use lib.ListN.{length}
 use denote.Ref.{now}
 use Rattle.text.specs.Told.{ExpressionAt, TailAt, DecimalAt, IsExpression, IsTail}
-use Rattle.text.proofs.Ways.{Opened, no-text, is-letter, no-open, no-left, no-right, no-more, no-shut, is-bracket, no-tail-text, no-sign, no-number, is-number, no-operand, is-operand}
-use Prim.Native.Nat.{ℕ, _<_, _≤_, _-_, _+_}
+use Rattle.text.proofs.Ways.{Opened, no-text, is-letter, no-open, no-left, no-right, no-more, no-shut, is-bracket}
+use Rattle.text.proofs.Ways.{no-tail-text, no-sign, no-number, is-number, no-operand, is-operand}
+use Prim.Native.Nat.{ℕ, _<_, _-_, _+_}
 use borrow.Fn.Kinds.{In}
 use borrow.Fn.PlainCycle.{Measures, is, falls, and}
-use Rattle.text.proofs.expression.Reads as expression
-use Rattle.text.proofs.expression.Kinds as expression-kinds
-use Rattle.text.proofs.+expression+tail.Lts-expression as expression-lts
-use Rattle.text.proofs.tail.Reads as tail
-use Rattle.text.proofs.tail.Kinds as tail-kinds
-use Rattle.text.proofs.+expression+tail.Lts-tail as tail-lts
-use Rattle.text.proofs.letter.Reads as letter-reads
-use Rattle.text.proofs.put.Reads as put-reads
-use Rattle.text.proofs.read_number.Reads as read-number-reads
-use Rattle.text.proofs.sign.Reads as sign-reads
-use Rattle.text.proofs.+expression+tail.{statement}
-use Rattle.text.proofs.+expression+tail.Tie.{close}
+use Rattle.text.proofs.reader.expression.Reads as expression
+use Rattle.text.proofs.reader.expression.Kinds as expression-kinds
+use Rattle.text.proofs.reader.+expression+tail.Lts-expression as expression-lts
+use Rattle.text.proofs.reader.tail.Reads as tail
+use Rattle.text.proofs.reader.tail.Kinds as tail-kinds
+use Rattle.text.proofs.reader.+expression+tail.Lts-tail as tail-lts
+use Rattle.text.proofs.reader.letter.Reads as letter-reads
+use Rattle.text.proofs.reader.put.Reads as put-reads
+use Rattle.text.proofs.reader.read_number.Reads as read-number-reads
+use Rattle.text.proofs.reader.sign.Reads as sign-reads
+use Rattle.text.proofs.reader.+expression+tail.{statement}
+use Rattle.text.proofs.reader.+expression+tail.Tie.{close}
 
 abbrev μ-expression : Measures 2 expression-kinds.ps ℕ
 μ-expression κs a = length (a .0 .now) - a .1 .0
@@ -44,19 +46,45 @@ tail-below t = and 2 tail-kinds.ps (falls 2 tail-kinds.ps _<_ μ-tail t) tail.Pr
 
 -- what the calls in each ask and give
 abbrev expression-calls : ℕ → expression-lts.Claims
-expression-calls t = (letter-reads.Asked, letter-reads.Learnt, put-reads.Asked, put-reads.Learnt, expression-below t, expression.Post, tail-below t, tail.Post)
+expression-calls t = (
+  letter-reads.Asked,
+  letter-reads.Learnt,
+  put-reads.Asked,
+  put-reads.Learnt,
+  expression-below t,
+  expression.Post,
+  tail-below t,
+  tail.Post,
+)
 
 abbrev tail-calls : ℕ → tail-lts.Claims
-tail-calls t = (sign-reads.Asked, sign-reads.Learnt, read-number-reads.Asked, read-number-reads.Learnt, put-reads.Asked, put-reads.Learnt, expression-below t, expression.Post)
+tail-calls t = (
+  sign-reads.Asked,
+  sign-reads.Learnt,
+  read-number-reads.Asked,
+  read-number-reads.Learnt,
+  put-reads.Asked,
+  put-reads.Learnt,
+  expression-below t,
+  expression.Post,
+)
 
 -- what is known once '(' has been read, once the first operand has, and once the tail has
-opened-at : (t : ℕ) (c : expression-lts.Else3 (expression-calls t) (expression-at t) expression.Post) → let a = c .before .before .before .before .before .before .args in Opened (now (a .text)) (a .at)
+opened-at : (t : ℕ) (c : expression-lts.Else3 (expression-calls t) (expression-at t) expression.Post)
+    → let a = c .before .before .before .before .before .before .args in Opened (now (a .text)) (a .at)
 opened-at t c = record { inside = omega arith; no-letter = omega arith; bracket = c .if3 .left }
 
-left-is : (t : ℕ) (c : expression-lts.After-left2 (expression-calls t) (expression-at t) expression.Post) → let a = c .before .before .before .before .before .before .before .before .before .before .args in IsExpression (now (a .text)) (a .at + 1) (a .entries) (now (a .body)) (c .before .before .expression .last .1 .1 .0) (c .left2 .given .0 .0) (c .left2 .given .0 .1 .0)
+left-is : (t : ℕ) (c : expression-lts.After-left2 (expression-calls t) (expression-at t) expression.Post)
+    → let a = c .before .before .before .before .before .before .before .before .before .before .args in
+    IsExpression (now (a .text)) (a .at + 1) (a .entries) (now (a .body)) (c .before .before .expression .last .1 .1 .0)
+    (c .left2 .given .0 .0) (c .left2 .given .0 .1 .0)
 left-is t c = subst (ExpressionAt _ _ _ _ _) (c .left2 .given .1) (c .before .before .expression .ensures)
 
-right-is : (t : ℕ) (c : expression-lts.After-right2 (expression-calls t) (expression-at t) expression.Post) → let a = c .before .before .before .before .before .before .before .before .before .before .before .before .before .before .before .args in IsTail (now (a .text)) (c .before .before .before .before .before .left2 .given .0 .0) (c .before .before .before .before .before .left2 .given .0 .1 .0) (c .before .before .before .before .before .before .before .expression .last .1 .1 .0) (c .before .before .tail .last .1 .1 .0) (c .right2 .given .0 .0) (c .right2 .given .0 .1 .0)
+right-is : (t : ℕ) (c : expression-lts.After-right2 (expression-calls t) (expression-at t) expression.Post)
+    → let l = c .before .before .before .before .before in
+    let a = l .before .before .before .before .before .before .before .before .before .before .args in
+    IsTail (now (a .text)) (l .left2 .given .0 .0) (l .left2 .given .0 .1 .0)
+    (l .before .before .expression .last .1 .1 .0) (c .before .before .tail .last .1 .1 .0) (c .right2 .given .0 .0) (c .right2 .given .0 .1 .0)
 right-is t c = subst (TailAt _ _ _ _ _) (c .right2 .given .1) (c .before .before .tail .ensures)
 
 expression-returns : (t : ℕ) → expression-lts.Need-returns (expression-calls t) (expression-at t) expression.Post
@@ -81,7 +109,8 @@ expression-add-t23 : (t : ℕ) → expression-lts.Need-add-t23 (expression-calls
 expression-add-t23 t c = search needs
 
 expression-returns-2 : (t : ℕ) → expression-lts.Need-returns-2 (expression-calls t) (expression-at t) expression.Post
-expression-returns-2 t c = is-letter _ _ _ _ _ _ (omega arith) (c .before .before .before .letter .ensures) (omega arith) (c .put .ensures)
+expression-returns-2 t c =
+    is-letter _ _ _ _ _ _ (omega arith) (c .before .before .before .letter .ensures) (omega arith) (c .put .ensures)
 
 expression-returns-3 : (t : ℕ) → expression-lts.Need-returns-3 (expression-calls t) (expression-at t) expression.Post
 expression-returns-3 t c = no-open _ _ (omega arith) (omega arith) (c .if3 .taken)
@@ -99,7 +128,9 @@ expression-enum-known-left-2 : (t : ℕ) → expression-lts.Need-enum-known-left
 expression-enum-known-left-2 t c = search needs
 
 expression-tail-requires : (t : ℕ) → expression-lts.Need-tail-requires (expression-calls t) (expression-at t) expression.Post
-expression-tail-requires t c κs = let l = left-is t (c .before .before) in omega (arith, c .before .before .before .before .before .before .before .before .before .before .before .before .pre)
+expression-tail-requires t c κs =
+    let l = left-is t (c .before .before) in
+    omega (arith, c .before .before .before .before .before .before .before .before .before .before .before .before .pre)
 
 expression-enum-known-right : (t : ℕ) → expression-lts.Need-enum-known-right (expression-calls t) (expression-at t) expression.Post
 expression-enum-known-right t c = search needs
@@ -108,27 +139,45 @@ expression-enum-known-right-2 : (t : ℕ) → expression-lts.Need-enum-known-rig
 expression-enum-known-right-2 t c = search needs
 
 expression-returns-4 : (t : ℕ) → expression-lts.Need-returns-4 (expression-calls t) (expression-at t) expression.Post
-expression-returns-4 t c = no-more _ _ (opened-at t (c .before .before .before .before .before .before .before .before .before .before .before)) (left-is t (c .before .before .before .before .before .before .before)) (right-is t (c .before .before)) (omega arith)
+expression-returns-4 t c =
+    let r = c .before .before in
+    let l = r .before .before .before .before .before in
+    no-more _ _ (opened-at t (l .before .before .before .before)) (left-is t l) (right-is t r) (omega arith)
 
 expression-shared-slice-read-if5 : (t : ℕ) → expression-lts.Need-shared-slice-read-if5 (expression-calls t) (expression-at t) expression.Post
 expression-shared-slice-read-if5 t c = let r = right-is t (c .before .before .before) in omega arith
 
 expression-returns-5 : (t : ℕ) → expression-lts.Need-returns-5 (expression-calls t) (expression-at t) expression.Post
-expression-returns-5 t c = no-shut _ _ (opened-at t (c .before .before .before .before .before .before .before .before .before .before .before .before .before)) (left-is t (c .before .before .before .before .before .before .before .before .before)) (right-is t (c .before .before .before .before)) (let r = right-is t (c .before .before .before .before) in omega arith) (c .if5 .taken)
+expression-returns-5 t c =
+    let r = c .before .before .before .before in
+    let l = r .before .before .before .before .before in
+    no-shut _ _ (opened-at t (l .before .before .before .before)) (left-is t l) (right-is t r) (let k = right-is t r in omega arith) (c .if5 .taken)
 
 expression-add-t28 : (t : ℕ) → expression-lts.Need-add-t28 (expression-calls t) (expression-at t) expression.Post
 expression-add-t28 t c = let r = right-is t (c .before .before .before .before) in omega arith
 
 expression-returns-6 : (t : ℕ) → expression-lts.Need-returns-6 (expression-calls t) (expression-at t) expression.Post
-expression-returns-6 t c = no-left _ _ (opened-at t (c .before .before .before .before .before)) (subst (ExpressionAt _ _ _ _ _) (c .before .left .given .1) (c .before .before .before .expression .ensures))
+expression-returns-6 t c =
+    no-left _ _ (opened-at t (c .before .before .before .before .before))
+    (subst (ExpressionAt _ _ _ _ _) (c .before .left .given .1) (c .before .before .before .expression .ensures))
 
 expression-returns-7 : (t : ℕ) → expression-lts.Need-returns-7 (expression-calls t) (expression-at t) expression.Post
-expression-returns-7 t c = no-right _ _ (opened-at t (c .before .before .before .before .before .before .before .before .before .before)) (left-is t (c .before .before .before .before .before .before)) (subst (TailAt _ _ _ _ _) (c .before .right .given .1) (c .before .before .before .tail .ensures))
+expression-returns-7 t c =
+    let l = c .before .before .before .before .before .before in
+    no-right _ _ (opened-at t (l .before .before .before .before)) (left-is t l)
+    (subst (TailAt _ _ _ _ _) (c .before .right .given .1) (c .before .before .before .tail .ensures))
 
 expression-returns-8 : (t : ℕ) → expression-lts.Need-returns-8 (expression-calls t) (expression-at t) expression.Post
-expression-returns-8 t c = is-bracket _ _ (opened-at t (c .before .before .before .before .before .before .before .before .before .before .before .before .before)) (left-is t (c .before .before .before .before .before .before .before .before .before)) (right-is t (c .before .before .before .before)) (let r = right-is t (c .before .before .before .before) in omega arith) (c .if5 .left)
+expression-returns-8 t c =
+    let r = c .before .before .before .before in
+    let l = r .before .before .before .before .before in
+    is-bracket _ _ (opened-at t (l .before .before .before .before)) (left-is t l) (right-is t r) (let k = right-is t r in omega arith) (c .if5 .left)
 
-operand-is : (t : ℕ) (c : tail-lts.After-operand2 (tail-calls t) (tail-at t) tail.Post) → let a = c .before .before .before .before .before .before .before .before .before .before .args in IsExpression (now (a .text)) (a .at + 1) (a .entries) (now (a .body)) (c .before .before .expression .last .1 .1 .0) (c .operand2 .given .0 .0) (c .operand2 .given .0 .1 .0)
+-- what is known once the second operand has been read
+operand-is : (t : ℕ) (c : tail-lts.After-operand2 (tail-calls t) (tail-at t) tail.Post)
+    → let a = c .before .before .before .before .before .before .before .before .before .before .args in
+    IsExpression (now (a .text)) (a .at + 1) (a .entries) (now (a .body)) (c .before .before .expression .last .1 .1 .0)
+    (c .operand2 .given .0 .0) (c .operand2 .given .0 .1 .0)
 operand-is t c = subst (ExpressionAt _ _ _ _ _) (c .operand2 .given .1) (c .before .before .expression .ensures)
 
 tail-returns : (t : ℕ) → tail-lts.Need-returns (tail-calls t) (tail-at t) tail.Post
@@ -177,19 +226,32 @@ tail-put-requires-2 : (t : ℕ) → tail-lts.Need-put-requires-2 (tail-calls t) 
 tail-put-requires-2 t c κs = search needs
 
 tail-add-t29 : (t : ℕ) → tail-lts.Need-add-t29 (tail-calls t) (tail-at t) tail.Post
-tail-add-t29 t c = let b = operand-is t (c .before .before .before) in omega (arith, c .before .before .before .before .before .before .before .before .before .before .before .before .before .pre)
+tail-add-t29 t c =
+    let b = operand-is t (c .before .before .before) in
+    omega (arith, c .before .before .before .before .before .before .before .before .before .before .before .before .before .pre)
 
 tail-returns-3 : (t : ℕ) → tail-lts.Need-returns-3 (tail-calls t) (tail-at t) tail.Post
-tail-returns-3 t c = no-number _ _ (omega arith) (omega arith) (subst (DecimalAt _ _) (c .before .number .given .1) (c .before .before .before .read-number .ensures))
+tail-returns-3 t c =
+    no-number _ _ (omega arith) (omega arith)
+    (subst (DecimalAt _ _) (c .before .number .given .1) (c .before .before .before .read-number .ensures))
 
 tail-returns-4 : (t : ℕ) → tail-lts.Need-returns-4 (tail-calls t) (tail-at t) tail.Post
-tail-returns-4 t c = is-number _ _ (omega arith) (omega arith) _ _ _ (subst (DecimalAt _ _) (c .before .before .before .number2 .given .1) (c .before .before .before .before .before .read-number .ensures)) (c .put .ensures)
+tail-returns-4 t c =
+    is-number _ _ (omega arith) (omega arith) _ _ _
+    (subst (DecimalAt _ _) (c .before .before .before .number2 .given .1) (c .before .before .before .before .before .read-number .ensures))
+    (c .put .ensures)
 
 tail-returns-5 : (t : ℕ) → tail-lts.Need-returns-5 (tail-calls t) (tail-at t) tail.Post
-tail-returns-5 t c = no-operand _ _ (omega arith) _ (c .before .before .before .before .before .before .before .sign .ensures) (c .before .before .before .before .before .before .if2 .left) (c .before .before .before .before .before .if3 .left) (subst (ExpressionAt _ _ _ _ _) (c .before .operand .given .1) (c .before .before .before .expression .ensures))
+tail-returns-5 t c =
+    let k = c .before .before .before .before .before in
+    no-operand _ _ (omega arith) _ (k .before .before .sign .ensures) (k .before .if2 .left) (k .if3 .left)
+    (subst (ExpressionAt _ _ _ _ _) (c .before .operand .given .1) (c .before .before .before .expression .ensures))
 
 tail-returns-6 : (t : ℕ) → tail-lts.Need-returns-6 (tail-calls t) (tail-at t) tail.Post
-tail-returns-6 t c = is-operand _ _ (omega arith) _ (c .before .before .before .before .before .before .before .before .before .sign .ensures) (c .before .before .before .before .before .before .before .before .if2 .left) (c .before .before .before .before .before .before .before .if3 .left) _ (operand-is t (c .before .before .before)) (c .put2 .ensures)
+tail-returns-6 t c =
+    let k = c .before .before .before .before .before .before .before in
+    is-operand _ _ (omega arith) _ (k .before .before .sign .ensures) (k .before .if2 .left) (k .if3 .left)
+    _ (operand-is t (c .before .before .before)) (c .put2 .ensures)
 
 pub +expression+tail-spec : {M : Type 1} → statement M
 +expression+tail-spec = close μ-expression μ-tail (λ t. expression-lts.spec (expression-calls t)

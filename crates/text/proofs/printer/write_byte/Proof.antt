@@ -1,9 +1,9 @@
--- `text::write_byte` meets its contract: one store. Assumes nothing.
+-- `text::printer::write_byte` meets its contract: one store. Assumes nothing.
 use borrow.Author.Needs.{needs}
 use native.Mathlib.Omega.{arith}
 use Rattle.text.proofs.Backwards.{byte-back}
-use Rattle.text.proofs.write_byte.Statement.{statement}
-use Rattle.text.proofs.write_byte.Tie as tie
+use Rattle.text.proofs.printer.write_byte.Statement.{statement}
+use Rattle.text.proofs.printer.write_byte.Tie as tie
 
 sub-place : tie.Need-sub-place
 sub-place c = search needs

@@ -1,4 +1,4 @@
--- `text::put` meets its contract: five stores where there is room, and where there is none five stores past the end, which change nothing.
+-- `text::reader::put` meets its contract: five stores where there is room, and where there is none five stores past the end, which change nothing.
 -- Assumes nothing.
 use mathlib.Core.Path.{sym}
 use denote.Ref.{now}
@@ -11,8 +11,8 @@ use native.Mathlib.Omega.{arith}
 use native.Mathlib.Numerals.{towards-suc}
 use Rattle.text.proofs.Entries.{sets-out}
 use borrow.Author.Needs.{needs}
-use Rattle.text.proofs.put.Statement.{statement}
-use Rattle.text.proofs.put.Tie as tie
+use Rattle.text.proofs.reader.put.Statement.{statement}
+use Rattle.text.proofs.reader.put.Tie as tie
 
 mul-at : tie.Need-mul-at
 mul-at c = search needs

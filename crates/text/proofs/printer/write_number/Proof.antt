@@ -1,9 +1,9 @@
--- `text::write_number` meets its contract. The invariant: the last digits are written, and the number left has the others. Assumes nothing.
+-- `text::printer::write_number` meets its contract. The invariant: the last digits are written, and the number left has the others. Assumes nothing.
 use borrow.Author.Needs.{needs}
 use native.Mathlib.Omega.{arith}
 use Rattle.text.proofs.Backwards.{NumberLeft, number-start, number-more, number-room, number-done}
-use Rattle.text.proofs.write_number.Statement.{statement}
-use Rattle.text.proofs.write_number.Tie as tie
+use Rattle.text.proofs.printer.write_number.Statement.{statement}
+use Rattle.text.proofs.printer.write_number.Tie as tie
 
 abbrev Inv-loop : tie.InvT-loop
 Inv-loop text₀ at n left₀ from₀ text left from = NumberLeft n text₀ text at from left

@@ -1,11 +1,11 @@
--- `text::read_number` meets its contract. The invariant: the digits so far make the number, which is not 0. Assumes nothing.
+-- `text::reader::read_number` meets its contract. The invariant: the digits so far make the number, which is not 0. Assumes nothing.
 use borrow.Author.Needs.{needs}
 use native.Mathlib.Omega.{arith}
 use Prim.Native.Nat.{_-_}
 use lib.ListN.{length}
 use Rattle.text.proofs.Numbers.{Going, bad-end, bad-first, value-zero, going-first, value-other, value-end, bad-over, going-more}
-use Rattle.text.proofs.read_number.Statement.{statement}
-use Rattle.text.proofs.read_number.Tie as tie
+use Rattle.text.proofs.reader.read_number.Statement.{statement}
+use Rattle.text.proofs.reader.read_number.Tie as tie
 
 abbrev Inv-loop : tie.InvT-loop
 Inv-loop text at d value₀ end₀ value end = Going text at end value
@@ -59,7 +59,9 @@ add-more : tie.Need-add-more Inv-loop μ-loop
 add-more c = search needs
 
 returns-5 : tie.Need-returns-5 Inv-loop μ-loop
-returns-5 c = bad-over _ _ _ _ (c .before .before .before .before .before .loop .inv) _ (omega arith) (c .before .before .digit2 .ensures) (omega arith) (omega arith)
+returns-5 c =
+    bad-over _ _ _ _ (c .before .before .before .before .before .loop .inv)
+    _ (omega arith) (c .before .before .digit2 .ensures) (omega arith) (omega arith)
 
 add-end-2 : tie.Need-add-end-2 Inv-loop μ-loop
 add-end-2 c = search needs
@@ -68,7 +70,9 @@ loop-less : tie.Need-loop-less Inv-loop μ-loop
 loop-less c = search needs
 
 loop-again : tie.Need-loop-again Inv-loop μ-loop
-loop-again c = going-more _ _ _ _ (c .before .before .before .before .before .loop .inv) _ (omega arith) (c .before .before .digit2 .ensures) (omega arith) (omega arith)
+loop-again c =
+    going-more _ _ _ _ (c .before .before .before .before .before .loop .inv)
+    _ (omega arith) (c .before .before .digit2 .ensures) (omega arith) (omega arith)
 
 cast-t19 : tie.Need-cast-t19 Inv-loop μ-loop
 cast-t19 c = search needs

@@ -1,9 +1,9 @@
--- `text::letter_byte` meets its contract: the test says which case of `letterByte` holds. Assumes nothing.
+-- `text::printer::letter_byte` meets its contract: the test says which case of `letterByte` holds. Assumes nothing.
 use borrow.Author.Needs.{needs}
 use borrow.Author.Tests.{lt-ltb, le-ltb}
 use Rattle.text.specs.Render.{letterByte}
-use Rattle.text.proofs.letter_byte.Statement.{statement}
-use Rattle.text.proofs.letter_byte.Tie as tie
+use Rattle.text.proofs.printer.letter_byte.Statement.{statement}
+use Rattle.text.proofs.printer.letter_byte.Tie as tie
 
 cast-result : tie.Need-cast-result
 cast-result c = search needs
