@@ -40,8 +40,8 @@ pub fn read_pattern(text: &[u8], body: &mut [u8]) -> Reading
     let mut made = [0u8; MOST_BODY];
     let whole = reader::expression(text, 0, &mut made, 0);
     match whole {
-        Reach::Stuck { place } => Reading::Refused(Refusal::Syntax(place)),
-        Reach::To { end, entries } => {
+        Reach::Stuck(place) => Reading::Refused(Refusal::Syntax(place)),
+        Reach::To(end, entries) => {
             if end < text.len() {
                 return Reading::Refused(Refusal::Syntax(end));
             }

@@ -15,22 +15,25 @@ pub(crate) const ENTRY: usize = 5;
 
 pub(crate) const MOST_BODY: usize = 315;
 
+// The number of event types.
+const LETTERS: u8 = 32;
+
 // A small letter less this is its event type: `a` is 26.
 pub(crate) const SMALL: u8 = 71;
 
 // The largest number of a restriction.
 const MOST_NUMBER: u64 = 4294967295;
 
-// How far an expression or a tail reaches, with the number of entries then, or the place where nothing could go on.
+// Where an expression or a tail ends and the number of entries then, or the place where nothing could go on.
 pub(crate) enum Reach {
-    To { end: usize, entries: usize },
-    Stuck { place: usize },
+    To(usize, usize),
+    Stuck(usize),
 }
 
-// A number that was read, with where it ends, or the place where none could go on.
+// Where a number ends and what it is, or the place where none could go on.
 enum Decimal {
-    Value { end: usize, value: u32 },
-    Bad { place: usize },
+    Value(usize, u32),
+    Bad(usize),
 }
 
 // The expression that starts at `at`: a letter, or `(`, an expression, a tail and `)`. Its entries follow the `entries` that there are.
@@ -44,44 +47,32 @@ pub(crate) fn expression(
     ensures { λ r. ⌜ ExpressionAt (now (text .entry)) at entries (now (body .entry)) (now (body .exit)) r ⌝ }
 {
     if at == text.len() {
-        return Reach::Stuck { place: at };
+        return Reach::Stuck(at);
     }
     let byte = text[at];
     let kind = letter(byte);
-    if kind < 32 {
+    if kind < LETTERS {
         put(body, entries, 0, kind as u32);
-        return Reach::To {
-            end: at + 1,
-            entries: entries + 1,
-        };
+        return Reach::To(at + 1, entries + 1);
     }
     if byte != b'(' {
-        return Reach::Stuck { place: at };
+        return Reach::Stuck(at);
     }
     let left = expression(text, at + 1, body, entries);
     match left {
-        Reach::Stuck { place } => Reach::Stuck { place: place },
-        Reach::To {
-            end: middle,
-            entries: some,
-        } => {
+        Reach::Stuck(place) => Reach::Stuck(place),
+        Reach::To(middle, some) => {
             let right = tail(text, middle, body, some);
             match right {
-                Reach::Stuck { place } => Reach::Stuck { place: place },
-                Reach::To {
-                    end: last,
-                    entries: all,
-                } => {
+                Reach::Stuck(place) => Reach::Stuck(place),
+                Reach::To(last, all) => {
                     if last == text.len() {
-                        return Reach::Stuck { place: last };
+                        return Reach::Stuck(last);
                     }
                     if text[last] != b')' {
-                        return Reach::Stuck { place: last };
+                        return Reach::Stuck(last);
                     }
-                    Reach::To {
-                        end: last + 1,
-                        entries: all,
-                    }
+                    Reach::To(last + 1, all)
                 }
             }
         }
@@ -94,34 +85,28 @@ fn tail(text: &[u8], at: usize, body: &mut [u8; MOST_BODY], entries: usize) -> R
     ensures { λ r. ⌜ TailAt (now (text .entry)) at entries (now (body .entry)) (now (body .exit)) r ⌝ }
 {
     if at == text.len() {
-        return Reach::Stuck { place: at };
+        return Reach::Stuck(at);
     }
     let op = sign(text[at]);
     if op == 0 {
-        return Reach::Stuck { place: at };
+        return Reach::Stuck(at);
     }
     if op == 5 {
         let number = read_number(text, at + 1);
         match number {
-            Decimal::Bad { place } => Reach::Stuck { place: place },
-            Decimal::Value { end, value } => {
+            Decimal::Bad(place) => Reach::Stuck(place),
+            Decimal::Value(end, value) => {
                 put(body, entries, 5, value);
-                Reach::To {
-                    end: end,
-                    entries: entries + 1,
-                }
+                Reach::To(end, entries + 1)
             }
         }
     } else {
         let operand = expression(text, at + 1, body, entries);
         match operand {
-            Reach::Stuck { place } => Reach::Stuck { place: place },
-            Reach::To { end, entries: some } => {
+            Reach::Stuck(place) => Reach::Stuck(place),
+            Reach::To(end, some) => {
                 put(body, some, op, 0);
-                Reach::To {
-                    end: end,
-                    entries: some + 1,
-                }
+                Reach::To(end, some + 1)
             }
         }
     }
@@ -133,36 +118,30 @@ fn read_number(text: &[u8], at: usize) -> Decimal
     ensures { λ r. ⌜ DecimalAt (now (text .entry)) at r ⌝ }
 {
     if at == text.len() {
-        return Decimal::Bad { place: at };
+        return Decimal::Bad(at);
     }
     let d = digit(text[at]);
     if d > 9 {
-        return Decimal::Bad { place: at };
+        return Decimal::Bad(at);
     }
     let mut value = d as u64;
     let mut end = at + 1;
     if value == 0 {
-        return Decimal::Value { end: end, value: 0 };
+        return Decimal::Value(end, 0);
     }
     while end < text.len() {
         let e = digit(text[end]);
         if e > 9 {
-            return Decimal::Value {
-                end: end,
-                value: value as u32,
-            };
+            return Decimal::Value(end, value as u32);
         }
         let more = value * 10 + (e as u64);
         if more > MOST_NUMBER {
-            return Decimal::Bad { place: end };
+            return Decimal::Bad(end);
         }
         value = more;
         end += 1;
     }
-    Decimal::Value {
-        end: end,
-        value: value as u32,
-    }
+    Decimal::Value(end, value as u32)
 }
 
 // 0..31 for a letter, 32 for any other byte.
@@ -170,15 +149,15 @@ fn letter(byte: u8) -> u8
     ensures { λ r. ⌜ r ≡ letterOf byte ⌝ }
 {
     if byte < b'A' {
-        32
+        LETTERS
     } else if byte <= b'Z' {
         byte - b'A'
     } else if byte < b'a' {
-        32
+        LETTERS
     } else if byte <= b'f' {
         byte - SMALL
     } else {
-        32
+        LETTERS
     }
 }
 

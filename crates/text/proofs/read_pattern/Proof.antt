@@ -7,7 +7,7 @@ use denote.Ref.{now}
 use Rattle.rules.specs.Limits.{mostText}
 use Rattle.text.specs.Told.{bodyLength, ExpressionAt, IsExpression}
 use Rattle.text.specs.Answer.RefusedText.{long, syntax, many, room}
-use Rattle.text.proofs.Answers.{stuck, over, many-entries, no-room, made-length, all-read}
+use Rattle.text.proofs.Readings.{stuck, over, many-entries, no-room, made-length, all-read}
 use borrow.Author.Needs.{needs}
 use Rattle.text.proofs.read_pattern.Statement.{statement}
 use Rattle.text.proofs.read_pattern.Tie as tie
