@@ -1,7 +1,9 @@
 // The cases of document 01 that are run. Each prints its name, then a refusal's number, place and entry, 0 0 0 where nothing is refused.
 mod bodies;
 mod show;
+mod texts;
 
 fn main() {
     bodies::run();
+    texts::run();
 }

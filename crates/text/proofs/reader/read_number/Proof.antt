@@ -1,0 +1,109 @@
+-- `text::reader::read_number` meets its contract. The invariant: the digits so far make the number, which is not 0. Assumes nothing.
+use borrow.Author.Needs.{needs}
+use native.Mathlib.Omega.{arith}
+use Prim.Native.Nat.{_-_}
+use lib.ListN.{length}
+use Rattle.text.proofs.Numbers.{Going, bad-end, bad-first, value-zero, going-first, value-other, value-end, bad-over, going-more}
+use Rattle.text.proofs.reader.read_number.Statement.{statement}
+use Rattle.text.proofs.reader.read_number.Tie as tie
+
+abbrev Inv-loop : tie.InvT-loop
+Inv-loop text at d value₀ end₀ value end = Going text at end value
+
+abbrev μ-loop : tie.MeasureT-loop
+μ-loop text at d value₀ end₀ value end = length text - end
+
+returns : tie.Need-returns Inv-loop μ-loop
+returns c = bad-end _ _ (omega arith)
+
+shared-slice-read-digit : tie.Need-shared-slice-read-digit Inv-loop μ-loop
+shared-slice-read-digit c = search needs
+
+digit-requires : tie.Need-digit-requires Inv-loop μ-loop
+digit-requires c κs = search needs
+
+returns-2 : tie.Need-returns-2 Inv-loop μ-loop
+returns-2 c = bad-first _ _ (omega arith) (omega arith)
+
+cast-value : tie.Need-cast-value Inv-loop μ-loop
+cast-value c = search needs
+
+add-end : tie.Need-add-end Inv-loop μ-loop
+add-end c = search needs
+
+returns-3 : tie.Need-returns-3 Inv-loop μ-loop
+returns-3 c = value-zero _ _ (omega arith) (omega arith)
+
+loop-holds : tie.Need-loop-holds Inv-loop μ-loop
+loop-holds c = going-first _ _ _ (omega arith) (c .before .before .digit .ensures) (omega arith) (omega arith)
+
+shared-slice-read-digit-2 : tie.Need-shared-slice-read-digit-2 Inv-loop μ-loop
+shared-slice-read-digit-2 c = search needs
+
+digit-requires-2 : tie.Need-digit-requires-2 Inv-loop μ-loop
+digit-requires-2 c κs = search needs
+
+cast-t16 : tie.Need-cast-t16 Inv-loop μ-loop
+cast-t16 c = search needs
+
+returns-4 : tie.Need-returns-4 Inv-loop μ-loop
+returns-4 c = value-other _ _ _ _ (c .before .before .before .before .loop .inv) (omega arith) (omega arith)
+
+mul-more : tie.Need-mul-more Inv-loop μ-loop
+mul-more c = search needs
+
+cast-more : tie.Need-cast-more Inv-loop μ-loop
+cast-more c = search needs
+
+add-more : tie.Need-add-more Inv-loop μ-loop
+add-more c = search needs
+
+returns-5 : tie.Need-returns-5 Inv-loop μ-loop
+returns-5 c =
+    bad-over _ _ _ _ (c .before .before .before .before .before .loop .inv)
+    _ (omega arith) (c .before .before .digit2 .ensures) (omega arith) (omega arith)
+
+add-end-2 : tie.Need-add-end-2 Inv-loop μ-loop
+add-end-2 c = search needs
+
+loop-less : tie.Need-loop-less Inv-loop μ-loop
+loop-less c = search needs
+
+loop-again : tie.Need-loop-again Inv-loop μ-loop
+loop-again c =
+    going-more _ _ _ _ (c .before .before .before .before .before .loop .inv)
+    _ (omega arith) (c .before .before .digit2 .ensures) (omega arith) (omega arith)
+
+cast-t19 : tie.Need-cast-t19 Inv-loop μ-loop
+cast-t19 c = search needs
+
+returns-6 : tie.Need-returns-6 Inv-loop μ-loop
+returns-6 c = value-end _ _ _ _ (c .before .loop .inv) (omega arith)
+
+pub read-number-spec : {M : Type 1} → statement M
+read-number-spec =
+    tie.close
+    (tie.spec
+    Inv-loop
+    μ-loop
+    returns
+    shared-slice-read-digit
+    digit-requires
+    returns-2
+    cast-value
+    add-end
+    returns-3
+    loop-holds
+    shared-slice-read-digit-2
+    digit-requires-2
+    cast-t16
+    returns-4
+    mul-more
+    cast-more
+    add-more
+    returns-5
+    add-end-2
+    loop-less
+    loop-again
+    cast-t19
+    returns-6)

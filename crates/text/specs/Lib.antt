@@ -1,0 +1,6 @@
+pub mod Render
+pub mod Grammar
+pub mod Answer
+pub mod Claim
+pub mod Machine
+pub mod Told
