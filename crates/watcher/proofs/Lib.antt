@@ -11,6 +11,8 @@ pub mod Runs
 pub mod Places
 pub mod Calls
 pub mod Walking
+pub mod Segments
+pub mod Pairing
 pub mod Rooming
 pub mod Opens
 pub mod Agrees
