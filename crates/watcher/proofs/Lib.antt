@@ -13,6 +13,7 @@ pub mod Calls
 pub mod Walking
 pub mod Segments
 pub mod Pairing
+pub mod Stepping
 pub mod Rooming
 pub mod Opens
 pub mod Agrees
