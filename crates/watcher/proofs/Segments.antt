@@ -165,9 +165,6 @@ module _ {answers base starts : List ℕ} {D : ℕ} (x : Laid answers base start
       stack-push f D ∙ ap (λ (l : List Value). f D ∷ l) (stack-pop f D one)
 
   module _ (v : ℕ) (own : List ℕ) (room : getD base D 0 + length own ≤ 62) where
-    b : ℕ
-    b = getD base D 0
-
     after : List ℕ
     after = set base D (getD base D 0 + length own)
 

@@ -48,9 +48,9 @@ pub record PairReady (op : Op) (s answers base starts : List ℕ) (d at t : ℕ)
   pub cell : at + cellWords op (getD base (d + 1) 0 - getD base d 0) ≤ length s
   pub room : getD base d 0 + possible op 0 (getD base (d + 1) 0 - getD base d 0) ≤ 62
 
--- from the operands' answers x and y, the right one's possible starts ys and the cell c: the left operand's place has the answer
--- and all the starts, the cell is as it becomes, and r is the place after it
-pub record Paired (op : Op) (t x y : ℕ) (ys c s answers base starts : List ℕ) (d at : ℕ) (s′ answers′ base′ starts′ : List ℕ) (r : ℕ) : Type 0 where
+-- it was stepped, where x and y are the operands' answers, ys the right one's possible starts, and c the cell as it was: the answer and the
+-- starts stand at the left operand's place, the cell is as it becomes, and r is the place after it
+pub record PairStepped (op : Op) (t x y : ℕ) (ys c s answers base starts : List ℕ) (d at : ℕ) (s′ answers′ base′ starts′ : List ℕ) (r : ℕ) : Type 0 where
   pub place : r ≡ at + cellWords op (length ys)
   pub words : s′ ≡ over at (cellAfter op t x y ys c) s
   pub answered : answers′ ≡ set answers (d - 1) (cellAnswer op t x y c)
@@ -59,5 +59,5 @@ pub record Paired (op : Op) (t x y : ℕ) (ys c s answers base starts : List ℕ
 
 abbrev pub PairDone : Op → List ℕ → List ℕ → List ℕ → List ℕ → ℕ → ℕ → ℕ → List ℕ → List ℕ → List ℕ → List ℕ → ℕ → Type 0
 PairDone op s answers base starts d at t s′ answers′ base′ starts′ r =
-    Paired op t (getD answers (d - 1) 0) (getD answers d 0) (segment base starts d)
+    PairStepped op t (getD answers (d - 1) 0) (getD answers d 0) (segment base starts d)
     (take (cellWords op (length (segment base starts d))) (drop at s)) s answers base starts d at s′ answers′ base′ starts′ r

@@ -45,7 +45,7 @@ pub(crate) fn step(state: &mut [u64], t: u64, events: u32) -> u64
     answers[0]
 }
 
-// The answer of a letter: an instance that starts at t, if its event is there.
+// The answer of a letter: t itself is the start, if the event is there.
 fn letter_answer(events: u32, kind: u64, t: u64) -> u64
     requires { ⌜ t < ticks ⌝ }
     ensures { λ r. ⌜ r ≡ letterAnswer t events kind ⌝ }
@@ -56,7 +56,7 @@ fn letter_answer(events: u32, kind: u64, t: u64) -> u64
     0
 }
 
-// The answer a, if its length is at most the limit: t - (a - 1) ≤ limit.
+// The answer of a restriction: a stands if its start is at most `limit` ticks before t.
 fn within_answer(a: u64, limit: u64, t: u64) -> u64
     ensures { λ r. ⌜ r ≡ withinAnswer t limit a ⌝ }
 {
@@ -69,7 +69,7 @@ fn within_answer(a: u64, limit: u64, t: u64) -> u64
     0
 }
 
-// An operator whose right operand stands at place d of the stack, its left one below, and its cell at a place: gives the place after.
+// Steps an operator, whose right operand stands at place d and whose cell at a place, and gives the place after the cell.
 fn pair(
     op: Op,
     state: &mut [u64],
@@ -81,7 +81,8 @@ fn pair(
     t: u64,
 ) -> usize
     requires { ⌜ PairReady op (now state) (now answers) (now base) (now starts) d at t ⌝ }
-    ensures { λ r. ⌜ PairDone op (now (state .entry)) (now (answers .entry)) (now (base .entry)) (now (starts .entry)) d at t (now (state .exit)) (now (answers .exit)) (now (base .exit)) (now (starts .exit)) r ⌝ }
+    ensures { λ r. ⌜ PairDone op (now (state .entry)) (now (answers .entry)) (now (base .entry)) (now (starts .entry)) d at t
+        (now (state .exit)) (now (answers .exit)) (now (base .exit)) (now (starts .exit)) r ⌝ }
 {
     let y = answers[d];
     let x = answers[d - 1];
@@ -93,7 +94,7 @@ fn pair(
     end
 }
 
-// Where the starts of an operator's cell go: after those of its right operand if these stay possible, else over them.
+// Where the starts of an operator's cell go: after those of its right operand, b to the top, if these stay possible, else over them.
 fn own_from(op: Op, b: usize, top: usize) -> usize
     ensures { λ r. ⌜ r ≡ ownFrom op b top ⌝ }
 {

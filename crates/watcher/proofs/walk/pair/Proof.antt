@@ -3,12 +3,6 @@ use borrow.Author.Needs.{needs}
 use Rattle.watcher.proofs.Pairing.{pair-steps, pair-pushes, pair-done}
 use Rattle.watcher.proofs.walk.pair.Statement.{statement}
 use Rattle.watcher.proofs.walk.pair.Tie as tie
-use Rattle.watcher.proofs.walk.pair.Reads as reads
-use Rattle.watcher.proofs.walk.pair.Lts as lts
-use Rattle.cell.proofs.cell_step.Reads as cell-step-reads
-use Rattle.cell.proofs.cell_words.Reads as cell-words-reads
-use Rattle.cell.proofs.push_starts.Reads as push-starts-reads
-use Rattle.watcher.proofs.walk.own_from.Reads as own-from-reads
 
 mul-y : tie.Need-mul-y
 mul-y c = search needs
@@ -134,7 +128,8 @@ returns c =
     let k = f .before .before .before .before .before .before in
     let w = k .before .before .before .before in
     let z = w .before .before .before .before .before .before .before .before .before in
-    pair-done (z .pre) (w .cell-words .result) (w .cell-words .ensures) (k .cell-step .ensures) (f .own-from .ensures) (c .before .before .push-starts .ensures)
+    pair-done (z .pre) (w .cell-words .result) (w .cell-words .ensures) (k .cell-step .ensures) (f .own-from .ensures)
+    (c .before .before .push-starts .ensures)
 
 pub pair-spec : {M : Type 1} → statement M
 pair-spec =

@@ -1,23 +1,15 @@
 -- `watcher::walk::step` meets its contract. The loop's invariant: the words, the place of the next cell and the stack in the arrays lead to the
 -- end of the walk over the words as they were. The measure is the number of entries left. Assumes nothing.
-use Prim.Native.Nat.{ℕ, _+_, _-_, _<_}
-use mathlib.Core.Path.{_≡_, refl, sym, subst, _∙_}
+use Prim.Native.Nat.{_+_, _-_, _<_}
+use mathlib.Core.Path.{_≡_, refl, sym, _∙_}
 use native.Mathlib.Omega.{arith}
-use lib.ListN.{length}
 use borrow.Author.Needs.{needs}
-use Rattle.body.specs.declared.Entry.the-variants.{Letter, Pair, Within, Wrong}
+use Rattle.body.specs.declared.Entry.the-variants.{Letter, Pair, Within}
 use Rattle.watcher.specs.Walk.{entryIn}
-use Rattle.watcher.proofs.Stepping.{Stepping, ready-long, stepping-start, stepping-long, stepping-end, stepping-wrong, stepping-room}
-use Rattle.watcher.proofs.Stepping.{stepping-letter, stepping-one, stepping-within, stepping-two, stepping-ready, stepping-pair}
+use Rattle.watcher.proofs.Stepping.{Stepping, ready-long, stepping-start, stepping-long, stepping-end, stepping-wrong}
+use Rattle.watcher.proofs.Stepping.{stepping-room, stepping-letter, stepping-one, stepping-within, stepping-two, stepping-ready, stepping-pair}
 use Rattle.watcher.proofs.walk.step.Statement.{statement}
 use Rattle.watcher.proofs.walk.step.Tie as tie
-use Rattle.watcher.proofs.walk.step.Reads as reads
-use Rattle.watcher.proofs.walk.step.Lts as lts
-use Rattle.body.proofs.at_least.Reads as at-least-reads
-use Rattle.watcher.proofs.form.entry_in.Reads as entry-in-reads
-use Rattle.watcher.proofs.walk.letter_answer.Reads as letter-answer-reads
-use Rattle.watcher.proofs.walk.pair.Reads as pair-reads
-use Rattle.watcher.proofs.walk.within_answer.Reads as within-answer-reads
 
 abbrev Inv-loop : tie.InvT-loop
 Inv-loop state₀ t events n answers₀ base₀ starts₀ at₀ d₀ i₀ state answers base starts at d i = Stepping t events state₀ state answers base starts at d i
@@ -158,10 +150,8 @@ pair-stands : (c : tie.After-at-least2 Inv-loop μ-loop)
     (k .loop .state) (k .loop .answers) (k .loop .base) (k .loop .starts) (k .loop .at) (k .loop .d - 1 + 1) (k .loop .i)
 pair-stands c =
     let k = c .before .before .before .before .before .before .before in
-    let z = k .before .before .before .args in
-    let e : k .loop .d ≡ k .loop .d - 1 + 1 = omega (arith, c .at-least2 .ensures) in
-    subst (λ (n : ℕ). Stepping (z .t) (z .events) (z .state .now) (k .loop .state) (k .loop .answers) (k .loop .base) (k .loop .starts) (k .loop .at) n (k .loop .i)) e
-    (k .loop .inv)
+    let e : k .loop .d - 1 + 1 ≡ k .loop .d = omega (arith, c .at-least2 .ensures) in
+    rw e (k .loop .inv)
 
 sub-d : tie.Need-sub-d Inv-loop μ-loop
 sub-d c = search needs
