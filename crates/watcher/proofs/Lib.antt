@@ -14,6 +14,9 @@ pub mod Runs
 pub mod Places
 pub mod Calls
 pub mod Walking
+pub mod Segments
+pub mod Pairing
+pub mod Stepping
 pub mod Rooming
 pub mod Opens
 pub mod Puts

@@ -2,4 +2,5 @@ pub mod State
 pub mod Answer
 pub mod Walk
 pub mod Form
+pub mod Step
 pub mod Claim

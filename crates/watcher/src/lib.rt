@@ -1,5 +1,6 @@
 // The watcher: its state as words in a lent slice, opened from a body and moved by ticks.
 mod form;
+mod walk;
 
 use body::BodyCheck;
 use body::Entry;

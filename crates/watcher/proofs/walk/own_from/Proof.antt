@@ -1,0 +1,36 @@
+-- `watcher::walk::own_from` meets its contract: each arm is the case of `ownFrom`. Assumes nothing.
+use Rattle.watcher.specs.Step.{ownFrom}
+use borrow.Author.Needs.{needs}
+use Rattle.watcher.proofs.walk.own_from.Statement.{statement}
+use Rattle.watcher.proofs.walk.own_from.Tie as tie
+
+enum-told : tie.Need-enum-told
+enum-told c = search needs
+
+enum-told-2 : tie.Need-enum-told-2
+enum-told-2 c = search needs
+
+enum-told-3 : tie.Need-enum-told-3
+enum-told-3 c = search needs
+
+enum-told-4 : tie.Need-enum-told-4
+enum-told-4 c = search needs
+
+returns : tie.Need-returns
+unfolding ownFrom
+returns c = rw (c .enum-told .given .1)
+
+returns-2 : tie.Need-returns-2
+unfolding ownFrom
+returns-2 c = rw (c .enum-told2 .given .1)
+
+returns-3 : tie.Need-returns-3
+unfolding ownFrom
+returns-3 c = rw (c .enum-told3 .given .1)
+
+returns-4 : tie.Need-returns-4
+unfolding ownFrom
+returns-4 c = rw (c .enum-told4 .given .1)
+
+pub own-from-spec : {M : Type 1} → statement M
+own-from-spec = tie.close (tie.spec enum-told enum-told-2 enum-told-3 enum-told-4 returns returns-2 returns-3 returns-4)

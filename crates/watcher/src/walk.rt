@@ -1,0 +1,107 @@
+// A tick over the words of a state.
+use body::Entry;
+use rules::Op;
+ghost use mathlib.Core.Path.{_≡_};
+ghost use Prim.Native.Nat.{_<_};
+ghost use Rattle.rules.specs.Limits.{ticks};
+ghost use Rattle.watcher.specs.Walk.{letterAnswer, withinAnswer};
+ghost use Rattle.watcher.specs.Step.{StepsReady, StepsDone, ownFrom, PairReady, PairDone};
+
+// Takes a tick t with its events and gives the answer: start + 1 of the window that ends at t, 0 for none.
+// On the stack are the answers, and the possible starts: those at place k are starts[base[k]..base[k + 1]].
+pub(crate) fn step(state: &mut [u64], t: u64, events: u32) -> u64
+    requires { ⌜ StepsReady (now state) t ⌝ }
+    ensures { λ r. ⌜ StepsDone (now (state .entry)) t events (now (state .exit)) r ⌝ }
+{
+    let n = state[0] as usize;
+    let mut answers = [0u64; 32];
+    let mut base = [0usize; 33];
+    let mut starts = [0u64; 62];
+    let mut at = 2 + n;
+    let mut d: usize = 0;
+    let mut i: usize = 0;
+    while i < n {
+        let entry = crate::form::entry_in(state, i);
+        i += 1;
+        match entry {
+            Entry::Letter(kind) => {
+                answers[d] = letter_answer(events, kind, t);
+                base[d + 1] = base[d];
+                d += 1;
+            }
+            Entry::Within(limit) => {
+                body::at_least(d, 1);
+                answers[d - 1] = within_answer(answers[d - 1], limit, t);
+            }
+            Entry::Pair(op) => {
+                body::at_least(d, 2);
+                d -= 1;
+                at = pair(op, state, &mut answers, &mut base, &mut starts, d, at, t);
+            }
+            Entry::Wrong => {}
+        }
+    }
+    state[1] = t + 1;
+    answers[0]
+}
+
+// The answer of a letter: t itself is the start, if the event is there.
+fn letter_answer(events: u32, kind: u64, t: u64) -> u64
+    requires { ⌜ t < ticks ⌝ }
+    ensures { λ r. ⌜ r ≡ letterAnswer t events kind ⌝ }
+{
+    if rules::occurs(events, kind) {
+        return t + 1;
+    }
+    0
+}
+
+// The answer of a restriction: a stands if its start is at most `limit` ticks before t.
+fn within_answer(a: u64, limit: u64, t: u64) -> u64
+    ensures { λ r. ⌜ r ≡ withinAnswer t limit a ⌝ }
+{
+    if t < limit {
+        return a;
+    }
+    if t - limit < a {
+        return a;
+    }
+    0
+}
+
+// Steps an operator, whose right operand stands at place d and whose cell at a place, and gives the place after the cell.
+fn pair(
+    op: Op,
+    state: &mut [u64],
+    answers: &mut [u64],
+    base: &mut [usize],
+    starts: &mut [u64],
+    d: usize,
+    at: usize,
+    t: u64,
+) -> usize
+    requires { ⌜ PairReady op (now state) (now answers) (now base) (now starts) d at t ⌝ }
+    ensures { λ r. ⌜ PairDone op (now (state .entry)) (now (answers .entry)) (now (base .entry)) (now (starts .entry)) d at t
+        (now (state .exit)) (now (answers .exit)) (now (base .exit)) (now (starts .exit)) r ⌝ }
+{
+    let y = answers[d];
+    let x = answers[d - 1];
+    let b = base[d];
+    let top = base[d + 1];
+    let end = at + cell::cell_words(op, top - b);
+    answers[d - 1] = cell::cell_step(op, &mut state[at..end], &starts[b..top], x, y, t);
+    base[d] = cell::push_starts(op, &state[at..end], starts, own_from(op, b, top));
+    end
+}
+
+// Where the starts of an operator's cell go: after those of its right operand, b to the top, if these stay possible, else over them.
+fn own_from(op: Op, b: usize, top: usize) -> usize
+    ensures { λ r. ⌜ r ≡ ownFrom op b top ⌝ }
+{
+    match op {
+        Op::Either => top,
+        Op::Both => top,
+        Op::Without => b,
+        Op::Chain => b,
+    }
+}
