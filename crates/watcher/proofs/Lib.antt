@@ -13,6 +13,7 @@ pub mod Ticks
 pub mod Runs
 pub mod Places
 pub mod Calls
+pub mod Ways
 pub mod Walking
 pub mod Segments
 pub mod Pairing

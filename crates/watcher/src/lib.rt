@@ -12,7 +12,7 @@ ghost use lib.ListN.{length};
 ghost use Rattle.rules.specs.Limits.{argumentBytes};
 ghost use Rattle.body.specs.Entry.{opNumber};
 ghost use Rattle.body.specs.Check.{checkOf};
-ghost use Rattle.watcher.specs.Answer.{RoomAnswers, OpenAnswers};
+ghost use Rattle.watcher.specs.Answer.{RoomAnswers, OpenAnswers, TickAnswers};
 ghost use Rattle.watcher.specs.Walk.{cellsNeeded, wordsOpened};
 ghost use Rattle.watcher.specs.State.{wordOf};
 ghost use Rattle.watcher.specs.Form.{Narrow, Put, wordsOf, zeros, OpenReady};
@@ -63,6 +63,26 @@ pub fn open(body: &[u8], state: &mut [u64]) -> Opening
             Opening::Opened
         }
     }
+}
+
+// Takes a tick with its word of events: a window that ends at the tick, with the latest start, or none. A refused tick changes nothing.
+pub fn tick(state: &mut [u64], t: u64, events: u32) -> Ticking
+    ensures { λ r. ⌜ TickAnswers (now (state .entry)) (now (state .exit)) t events r ⌝ }
+{
+    if 4294967295 < t {
+        return Ticking::Refused(Refusal::Range);
+    }
+    if form::in_form(state) {
+        if t < state[1] {
+            return Ticking::Refused(Refusal::Late(0));
+        }
+        let answer = walk::step(state, t, events);
+        if answer == 0 {
+            return Ticking::Nothing;
+        }
+        return Ticking::Window(answer - 1);
+    }
+    Ticking::Refused(Refusal::State(0))
 }
 
 // The number of entries, no tick yet, the entries, and empty cells.
