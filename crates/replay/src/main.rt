@@ -2,6 +2,7 @@
 // A vector is three lines: the pattern's text; `tick:events` in hexadecimal; event words in hexadecimal. tests/make_vectors.py makes them.
 mod fields;
 mod plainly;
+mod watched;
 
 ghost use mathlib.Core.Path.{_≡_};
 ghost use Prim.Native.Nat.{_<_, _≤_};
@@ -27,18 +28,20 @@ fn vector(input: &[u8], at: usize) -> usize
 {
     let first = fields::line_end(input, at);
     let second = fields::after(input, first);
-    let third = fields::after(input, fields::line_end(input, second));
+    let middle = fields::line_end(input, second);
+    let third = fields::after(input, middle);
     let last = fields::line_end(input, third);
     let next = fields::after(input, last);
     if next <= at {
         return input.len();
     }
-    one(&input[at..first], &input[third..last]);
+    one(&input[at..first], &input[second..middle], &input[third..last]);
     next
 }
 
-fn one(pattern: &[u8], words: &[u8]) {
+fn one(pattern: &[u8], ticks: &[u8], words: &[u8]) {
     let mut body = [0u8; 315];
     let bytes = fields::read_bytes(pattern, &mut body);
+    watched::watch(&body, bytes, ticks);
     plainly::evaluate(&body, bytes, words);
 }

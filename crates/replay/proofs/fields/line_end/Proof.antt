@@ -1,41 +1,37 @@
+-- `replay::fields::line_end` stays within the input; the measure is the bytes left. Assumes nothing.
+use Prim.Native.Nat.{_-_, _≤_}
+use lib.ListN.{length}
+use borrow.Author.Needs.{needs}
+use native.Mathlib.Omega.{arith}
 use Rattle.replay.proofs.fields.line_end.Statement.{statement}
 use Rattle.replay.proofs.fields.line_end.Tie as tie
-use Rattle.replay.proofs.fields.line_end.Reads as reads
-use Rattle.replay.proofs.fields.line_end.Lts as lts
 
 abbrev Inv-loop : tie.InvT-loop
-Inv-loop input from at₀ at = ?
+Inv-loop input from at₀ at = (from ≤ at) × (at ≤ length input)
 
 abbrev μ-loop : tie.MeasureT-loop
-μ-loop input from at₀ at = ?
+μ-loop input from at₀ at = length input - at
 
--- src/fields.rt:13:5
 loop-holds : tie.Need-loop-holds Inv-loop μ-loop
-loop-holds c = ?
+loop-holds c = omega arith
 
--- src/fields.rt:14:12
 shared-slice-read-if1 : tie.Need-shared-slice-read-if1 Inv-loop μ-loop
-shared-slice-read-if1 c = ?
+shared-slice-read-if1 c = omega arith
 
--- src/fields.rt:15:13
 returns : tie.Need-returns Inv-loop μ-loop
-returns c = ?
+returns c = search needs
 
--- src/fields.rt:17:9
 add-at : tie.Need-add-at Inv-loop μ-loop
-add-at c = ?
+add-at c = omega arith
 
--- src/fields.rt:13:5
 loop-less : tie.Need-loop-less Inv-loop μ-loop
-loop-less c = ?
+loop-less c = omega arith
 
--- src/fields.rt:13:5
 loop-again : tie.Need-loop-again Inv-loop μ-loop
-loop-again c = ?
+loop-again c = omega arith
 
--- src/fields.rt:8:1
 returns-2 : tie.Need-returns-2 Inv-loop μ-loop
-returns-2 c = ?
+returns-2 c = search needs
 
 pub line-end-spec : {M : Type 1} → statement M
 line-end-spec =

@@ -1,54 +1,46 @@
+-- `replay::fields::read_field` stays within the input; the measure is the bytes left. Assumes nothing.
+use Prim.Native.Nat.{_-_, _≤_}
+use lib.ListN.{length}
+use borrow.Author.Needs.{needs}
+use native.Mathlib.Omega.{arith}
 use Rattle.replay.proofs.fields.read_field.Statement.{statement}
 use Rattle.replay.proofs.fields.read_field.Tie as tie
-use Rattle.replay.proofs.fields.read_field.Reads as reads
-use Rattle.replay.proofs.fields.read_field.Lts as lts
-use Rattle.replay.proofs.fields.digit.Reads as digit-reads
 
 abbrev Inv-loop : tie.InvT-loop
-Inv-loop input from value₀ at₀ value at = ?
+Inv-loop input from value₀ at₀ value at = (from ≤ at) × (at ≤ length input)
 
 abbrev μ-loop : tie.MeasureT-loop
-μ-loop input from value₀ at₀ value at = ?
+μ-loop input from value₀ at₀ value at = length input - at
 
--- src/fields.rt:42:5
 loop-holds : tie.Need-loop-holds Inv-loop μ-loop
-loop-holds c = ?
+loop-holds c = omega arith
 
--- src/fields.rt:43:23
 shared-slice-read-digit : tie.Need-shared-slice-read-digit Inv-loop μ-loop
-shared-slice-read-digit c = ?
+shared-slice-read-digit c = omega arith
 
--- src/fields.rt:43:13
 digit-requires : tie.Need-digit-requires Inv-loop μ-loop
-digit-requires c κs = ?
+digit-requires c κs = search needs
 
--- src/fields.rt:44:9
 add-at : tie.Need-add-at Inv-loop μ-loop
-add-at c = ?
+add-at c = omega arith
 
--- src/fields.rt:46:13
 returns : tie.Need-returns Inv-loop μ-loop
-returns c = ?
+returns c = search needs
 
--- src/fields.rt:51:17
 mul-value : tie.Need-mul-value Inv-loop μ-loop
-mul-value c = ?
+mul-value c = omega arith
 
--- src/fields.rt:51:17
 add-value : tie.Need-add-value Inv-loop μ-loop
-add-value c = ?
+add-value c = omega arith
 
--- src/fields.rt:42:5
 loop-less : tie.Need-loop-less Inv-loop μ-loop
-loop-less c = ?
+loop-less c = omega arith
 
--- src/fields.rt:42:5
 loop-again : tie.Need-loop-again Inv-loop μ-loop
-loop-again c = ?
+loop-again c = omega arith
 
--- src/fields.rt:36:1
 returns-2 : tie.Need-returns-2 Inv-loop μ-loop
-returns-2 c = ?
+returns-2 c = search needs
 
 pub read-field-spec : {M : Type 1} → statement M
 read-field-spec =
