@@ -212,9 +212,9 @@ module _ {answers base starts : List ℕ} {D : ℕ} (x : Laid answers base start
         let rest : stackBy f (D - 1) ≡ values answers base starts (D - 1) =
         stack-ext f (valueAt answers base starts) (D - 1)
         (λ k h.
-          let m : getD base (k + 1) 0 ≤ getD base D 0 = base-le x (k + 1) D (omega arith) (omega arith) in
-          rw (getD-set-other answers (D - 1) k v 0 (omega arith), under k (omega arith), under (k + 1) (omega arith))
-          (ap (λ (s : List ℕ). (getD answers k 0, s))
-          (part-below (getD base D 0) own starts (getD base k 0) (getD base (k + 1) 0 - getD base k 0)
-          (omega (arith, x .rises k (omega arith))) long))) in
+        let m : getD base (k + 1) 0 ≤ getD base D 0 = base-le x (k + 1) D (omega arith) (omega arith) in
+        rw (getD-set-other answers (D - 1) k v 0 (omega arith), under k (omega arith), under (k + 1) (omega arith))
+        (ap (λ (s : List ℕ). (getD answers k 0, s))
+        (part-below (getD base D 0) own starts (getD base k 0) (getD base (k + 1) 0 - getD base k 0)
+        (omega (arith, x .rises k (omega arith))) long))) in
         stack-pop f D one ∙ ap₂ (λ (n : Value) (s : List Value). n ∷ s) top rest

@@ -8,7 +8,7 @@ ghost use Rattle.watcher.specs.Walk.{letterAnswer, withinAnswer};
 ghost use Rattle.watcher.specs.Step.{StepsReady, StepsDone, ownFrom, PairReady, PairDone};
 
 // Takes a tick t with its events and gives the answer: start + 1 of the window that ends at t, 0 for none.
-// On the stack are the answers, and the possible starts: those at place k are starts[base[k]..base[k + 1]].
+// On the stack are at most 32 answers, and at most 62 possible starts: those at place k are starts[base[k]..base[k + 1]].
 pub(crate) fn step(state: &mut [u64], t: u64, events: u32) -> u64
     requires { ⌜ StepsReady (now state) t ⌝ }
     ensures { λ r. ⌜ StepsDone (now (state .entry)) t events (now (state .exit)) r ⌝ }
