@@ -1,64 +1,53 @@
+-- `replay::watched::answers` stays within the line; the measure is the bytes left. Assumes nothing.
+use Prim.Native.Nat.{_-_, _≤_}
+use mathlib.Core.Path.{_≡_}
+use lib.ListN.{length}
+use borrow.Author.Needs.{needs}
+use native.Mathlib.Omega.{arith}
 use Rattle.replay.proofs.watched.answers.Statement.{statement}
 use Rattle.replay.proofs.watched.answers.Tie as tie
-use Rattle.replay.proofs.watched.answers.Reads as reads
-use Rattle.replay.proofs.watched.answers.Lts as lts
-use Rattle.replay.proofs.fields.print.Reads as print-reads
-use Rattle.replay.proofs.fields.read_field.Reads as read-field-reads
-use Rattle.replay.proofs.watched.answer.Reads as answer-reads
 
 abbrev Inv-loop : tie.InvT-loop
-Inv-loop state₀ ticks at₀ state at = ?
+Inv-loop state₀ ticks at₀ state at = (at ≤ length ticks) × (length state ≡ length state₀)
 
 abbrev μ-loop : tie.MeasureT-loop
-μ-loop state₀ ticks at₀ state at = ?
+μ-loop state₀ ticks at₀ state at = length ticks - at
 
--- src/watched.rt:27:5
 loop-holds : tie.Need-loop-holds Inv-loop μ-loop
-loop-holds c = ?
+loop-holds c = omega arith
 
--- src/watched.rt:29:13
 read-field-requires : tie.Need-read-field-requires Inv-loop μ-loop
-read-field-requires c κs = ?
+read-field-requires c κs = search needs
 
--- src/watched.rt:32:17
 read-field-requires-2 : tie.Need-read-field-requires-2 Inv-loop μ-loop
-read-field-requires-2 c κs = ?
+read-field-requires-2 c κs = search needs
 
--- src/watched.rt:34:50
 cast-answer : tie.Need-cast-answer Inv-loop μ-loop
-cast-answer c = ?
+cast-answer c = omega arith
 
--- src/watched.rt:34:27
 answer-requires : tie.Need-answer-requires Inv-loop μ-loop
-answer-requires c κs = ?
+answer-requires c κs = search needs
 
--- src/watched.rt:34:13
 print-requires : tie.Need-print-requires Inv-loop μ-loop
-print-requires c κs = ?
+print-requires c κs = search needs
 
--- src/watched.rt:27:5
 loop-less : tie.Need-loop-less Inv-loop μ-loop
-loop-less c = ?
+loop-less c = omega arith
 
--- src/watched.rt:27:5
 loop-again : tie.Need-loop-again Inv-loop μ-loop
-loop-again c = ?
+loop-again c = omega arith
 
--- src/watched.rt:27:5
 loop-less-2 : tie.Need-loop-less-2 Inv-loop μ-loop
-loop-less-2 c = ?
+loop-less-2 c = omega arith
 
--- src/watched.rt:27:5
 loop-again-2 : tie.Need-loop-again-2 Inv-loop μ-loop
-loop-again-2 c = ?
+loop-again-2 c = omega arith
 
--- src/watched.rt:25:1
 same-length : tie.Need-same-length Inv-loop μ-loop
-same-length c = ?
+same-length c = omega arith
 
--- src/watched.rt:25:1
 returns : tie.Need-returns Inv-loop μ-loop
-returns c = ?
+returns c = search needs
 
 pub answers-spec : {M : Type 1} → statement M
 answers-spec =
