@@ -6,7 +6,7 @@ An independent implementation of the rules (document 01, "The algebra"): brute f
 
     python3 tests/make_vectors.py crates/replay/stdin crates/replay/stdout
 
-One vector is three lines: the pattern's text; the ticks given to the watcher, as `tick:events` in hexadecimal; the event
+One vector is its length in bytes, as five digits on a line, and three lines: the pattern's text; the ticks given to the watcher, as `tick:events` in hexadecimal; the event
 words given to the plain evaluator, in hexadecimal. For each vector the program prints three lines: the watcher's answers
 (start + 1, or 0), the latest starts of the rows of the whole pattern (start + 1, or 0), and how many instances each row has.
 """
@@ -97,7 +97,7 @@ def main():
             ' '.join(str(latest(watched, t)) for t, _ in given),
             ' '.join(str(latest(plain, t)) for t in range(ticks)),
             ' '.join(str(len(r)) for r in rows)))
-    open(sys.argv[1], 'w').write(''.join(vectors))
+    open(sys.argv[1], 'w').write(''.join('%05d\n%s' % (len(v), v) for v in vectors))
     open(sys.argv[2], 'w').write(''.join(answers))
     print('%d vectors, seed %d' % (CASES, SEED))
 

@@ -1,8 +1,14 @@
 // Lines and fields of the vectors.
-use text::Reading;
 use libc::STDOUT_FILENO;
+use text::Reading;
 ghost use Prim.Native.Nat.{_<_, _≤_};
 ghost use lib.ListN.{length};
+
+// A length in five digits.
+pub(crate) fn read_length(head: [u8; 6]) -> usize {
+    let tens = digit(head[0]) * 10000 + digit(head[1]) * 1000 + digit(head[2]) * 100;
+    (tens + digit(head[3]) * 10 + digit(head[4])) as usize
+}
 
 // Where the line that begins at a place ends.
 pub(crate) fn line_end(input: &[u8], from: usize) -> usize

@@ -1,47 +1,54 @@
 // Replays many patterns and records: what the watcher and the plain evaluator say of each, to be held to what the rules say.
-// A vector is three lines: the pattern's text; `tick:events` in hexadecimal; event words in hexadecimal. tests/make_vectors.py makes them.
+// A vector is its length as five digits on a line, and three lines: the pattern's text; `tick:events` in hexadecimal; event words in
+// hexadecimal. tests/make_vectors.py makes them.
 mod fields;
 mod plainly;
 mod watched;
 
-ghost use mathlib.Core.Path.{_≡_};
-ghost use Prim.Native.Nat.{_<_, _≤_};
-ghost use lib.ListN.{length};
+use libc::STDIN_FILENO;
 
 fn main() {
-    let mut input = [0u8; 1048576];
-    let n = io::read_full(0, &mut input);
-    replay(&input[0..n]);
-}
-
-fn replay(input: &[u8]) {
-    let mut at: usize = 0;
-    while at < input.len() {
-        at = vector(input, at);
+    let mut turns: u32 = 1000000;
+    while 0 < turns {
+        if replay() {
+            turns -= 1;
+        } else {
+            turns = 0;
+        }
     }
 }
 
-// The vector that begins at a place, replayed; gives the place after it.
-fn vector(input: &[u8], at: usize) -> usize
-    requires { ⌜ at < length (now input) ⌝ }
-    ensures { λ r. ⌜ (at < r) × (r ≤ length (now (input .entry))) ⌝ }
-{
-    let first = fields::line_end(input, at);
-    let second = fields::after(input, first);
-    let middle = fields::line_end(input, second);
-    let third = fields::after(input, middle);
-    let last = fields::line_end(input, third);
-    let next = fields::after(input, last);
-    if next <= at {
-        return input.len();
+// Whether there was a vector to replay.
+fn replay() -> bool {
+    let mut head = [0u8; 6];
+    if io::read_full(STDIN_FILENO, &mut head) < 6 {
+        return false;
     }
-    one(&input[at..first], &input[second..middle], &input[third..last]);
-    next
+    let mut vector = io::buffer();
+    replay_next(&mut vector, fields::read_length(head))
 }
 
-fn one(pattern: &[u8], ticks: &[u8], words: &[u8]) {
+// Reads the next `long` bytes and replays them as a vector.
+fn replay_next(vector: &mut [u8], long: usize) -> bool {
+    if vector.len() < long {
+        return false;
+    }
+    let got = io::read_full(STDIN_FILENO, &mut vector[0..long]);
+    if got < long {
+        return false;
+    }
+    replay_vector(&vector[0..long]);
+    true
+}
+
+fn replay_vector(vector: &[u8]) {
+    let first = fields::line_end(vector, 0);
+    let second = fields::after(vector, first);
+    let middle = fields::line_end(vector, second);
+    let third = fields::after(vector, middle);
+    let last = fields::line_end(vector, third);
     let mut body = [0u8; 315];
-    let bytes = fields::read_bytes(pattern, &mut body);
-    watched::watch(&body, bytes, ticks);
-    plainly::evaluate(&body, bytes, words);
+    let bytes = fields::read_bytes(&vector[0..first], &mut body);
+    watched::watch(&body, bytes, &vector[second..middle]);
+    plainly::evaluate(&body, bytes, &vector[third..last]);
 }

@@ -1,8 +1,8 @@
 -- `replay::plainly::read_words` stays within the line and the words; the measure is the bytes left. Assumes nothing.
 
 use Prim.Native.Nat.{_-_, _≤_}
-use mathlib.Core.Path.{_≡_}
-use lib.ListN.{length}
+use mathlib.Core.Path.{_≡_, _∙_}
+use lib.ListN.{length, length-set}
 use borrow.Author.Needs.{needs}
 use native.Mathlib.Omega.{arith}
 use Rattle.replay.proofs.plainly.read_words.Statement.{statement}
@@ -42,7 +42,9 @@ loop-less : tie.Need-loop-less Inv-loop μ-loop
 loop-less c = omega arith
 
 loop-again : tie.Need-loop-again Inv-loop μ-loop
-loop-again c = ?
+loop-again c =
+    let l = c .before .before .before .before .loop in
+    (omega arith, length-set (l .events) (l .n) _ ∙ l .inv .1)
 
 same-length-2 : tie.Need-same-length-2 Inv-loop μ-loop
 same-length-2 c = omega arith
