@@ -2,8 +2,10 @@
 mod bodies;
 mod show;
 mod texts;
+mod watches;
 
 fn main() {
     bodies::run();
     texts::run();
+    watches::run();
 }
