@@ -1,0 +1,5 @@
+pub mod Contents
+pub mod Check
+pub mod Write
+pub mod Lookup
+pub mod Claim

@@ -1,0 +1,28 @@
+// Pattern files: their check, their writer, and the lookup of a body in a site file and a fleet file.
+use refusal::Refusal;
+
+// What the check of a file answers.
+pub enum FileCheck {
+    Sound,
+    Refused(Refusal),
+}
+
+// What the writer answers: the bytes written.
+pub enum Writing {
+    Written(usize),
+    Refused(Refusal),
+}
+
+// Which of the two files that a lookup is given.
+pub enum Whose {
+    Site,
+    Fleet,
+}
+
+// Where a lookup found its body: in which file, from which byte, how many bytes. A file that is refused is named with its refusal; a name that
+// is in neither is refused as Absent.
+pub enum Finding {
+    Found(Whose, usize, usize),
+    Broken(Whose, Refusal),
+    Refused(Refusal),
+}
