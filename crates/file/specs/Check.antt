@@ -39,12 +39,15 @@ abbrev pub onEntry : Option ℕ → FileCheck → FileCheck
 onEntry none rest = rest
 onEntry (some i) rest = Refused (Entry i)
 
+-- bodies end to end: Size, Body
+unfoldable pub bodiesCheck : List ℕ → List ℕ → FileCheck
+bodiesCheck counts bodies = cond (eqb (length bodies) (total counts)) (brokenBody counts bodies 0) (Refused Size)
+
 -- the parts that a writer is given: Count, Entry, Size, Body
 unfoldable pub partsCheck : List ℕ → List ℕ → List ℕ → FileCheck
 partsCheck names counts bodies =
     cond (leb 1 (length counts)) (cond (leb (length counts) mostPatterns) (cond (eqb (length names) (nameBytes * length counts))
-    (onEntry (brokenEntry [] names counts 0)
-    (cond (eqb (length bodies) (total counts)) (brokenBody counts bodies 0) (Refused Size)))
+    (onEntry (brokenEntry [] names counts 0) (bodiesCheck counts bodies))
     (Refused Count)) (Refused Count)) (Refused Count)
 
 -- the names, and the numbers of entries, that the contents of a file hold
@@ -67,11 +70,14 @@ brokenContent before c zero offset i = none
 brokenContent before c (suc k) offset i =
     cond (contentKept before c offset) (brokenContent (take nameBytes c) (drop contentsBytes c) k (offset + bodyBytes (getD c 10 0)) (i + 1)) (some i)
 
+-- what follows a file's count: the contents, then the bodies
+unfoldable pub restCheck : ℕ → List ℕ → FileCheck
+restCheck count f =
+    cond (leb 1 count) (cond (leb count mostPatterns) (cond (leb (contentsBytes * count) (length f))
+    (onEntry (brokenContent [] f count (bodiesAt count) 0) (bodiesCheck (countsIn f count) (drop (contentsBytes * count) f)))
+    (Refused Count)) (Refused Count)) (Refused Count)
+
 -- a file: Count, Entry, Size, Body
 unfoldable pub checkOf : List ℕ → FileCheck
 checkOf [] = Refused Count
-checkOf (count ∷ f) =
-    cond (leb 1 count) (cond (leb count mostPatterns) (cond (leb (contentsBytes * count) (length f))
-    (onEntry (brokenContent [] f count (bodiesAt count) 0)
-    (cond (eqb (length f) (contentsBytes * count + total (countsIn f count))) (brokenBody (countsIn f count) (drop (contentsBytes * count) f) 0) (Refused Size)))
-    (Refused Count)) (Refused Count)) (Refused Count)
+checkOf (count ∷ f) = restCheck count f

@@ -1,5 +1,11 @@
 // Pattern files: their check, their writer, and the lookup of a body in a site file and a fleet file.
+mod contents;
+mod name;
+mod parts;
+
 use refusal::Refusal;
+ghost use mathlib.Core.Path.{_≡_};
+ghost use Rattle.file.specs.Check.{checkOf};
 
 // What the check of a file answers.
 pub enum FileCheck {
@@ -25,4 +31,14 @@ pub enum Finding {
     Found(Whose, usize, usize),
     Broken(Whose, Refusal),
     Refused(Refusal),
+}
+
+// Checks a file: its count, its contents, where it ends, and each body.
+pub fn check_file(file: &[u8]) -> FileCheck
+    ensures { λ r. ⌜ r ≡ checkOf (now (file .entry)) ⌝ }
+{
+    if file.len() == 0 {
+        return FileCheck::Refused(Refusal::Count);
+    }
+    contents::check_rest(parts::wide(file[0]), &file[1..])
 }
