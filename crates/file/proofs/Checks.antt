@@ -12,12 +12,12 @@ use lib.Seq.{take-at}
 use borrow.Author.Tests.{le-leb, lt-leb, eq-eqb, ne-eqb, leb-true, eqb-true}
 use Rattle.rules.specs.Limits.{mostEntries, mostPatterns}
 use Rattle.refusal.specs.declared.Refusal.{Refusal}
-use Rattle.refusal.specs.declared.Refusal.the-variants.{Count}
+use Rattle.refusal.specs.declared.Refusal.the-variants.{Count, Size}
 use Rattle.body.specs.Bytes.{valueAt}
 use Rattle.file.specs.declared.FileCheck.{FileCheck}
 use Rattle.file.specs.declared.FileCheck.the-variants.{Sound, Refused}
-use Rattle.file.specs.Contents.{named, below, bodyBytes, nameBytes, contentsBytes, bodiesAt}
-use Rattle.file.specs.Check.{entryKept, brokenEntry, onEntry, bodiesCheck, partsCheck}
+use Rattle.file.specs.Contents.{named, below, bodyBytes, nameBytes, contentsBytes, bodiesAt, total}
+use Rattle.file.specs.Check.{entryKept, brokenEntry, brokenBody, onEntry, bodiesCheck, partsCheck}
 use Rattle.file.specs.Check.{namesIn, countsIn, contentKept, brokenContent, restCheck, checkOf}
 use Rattle.file.specs.Ready.{Small}
 
@@ -88,6 +88,83 @@ module _ (count : ℕ) (f : List ℕ) where
         pub rest-bodies : onEntry (brokenContent [] f count (bodiesAt count) 0) Sound ≡ Sound
             → bodiesCheck (countsIn f count) (drop (contentsBytes * count) f) ≡ restCheck count f
         rest-bodies p = (rw (entry-sound (brokenContent [] f count (bodiesAt count) 0) p) refl) ∙ rest-rest
+
+-- a sound answer: every test passed
+gates : (t₁ t₂ t₃ : Bool) (o : Option ℕ) (rest : FileCheck)
+    → cond t₁ (cond t₂ (cond t₃ (onEntry o rest) (Refused Count)) (Refused Count)) (Refused Count) ≡ Sound
+    → (t₁ ≡ true) × (t₂ ≡ true) × (t₃ ≡ true) × (o ≡ none) × (rest ≡ Sound)
+gates true true true none rest p = (refl, refl, refl, refl, p)
+gates true true true (some i) rest p = let z : _≡_ {A = ℕ} 0 1 = cc in absurd (omega arith)
+gates true true false o rest p = let z : _≡_ {A = ℕ} 0 1 = cc in absurd (omega arith)
+gates true false t₃ o rest p = let z : _≡_ {A = ℕ} 0 1 = cc in absurd (omega arith)
+gates false t₂ t₃ o rest p = let z : _≡_ {A = ℕ} 0 1 = cc in absurd (omega arith)
+
+sized-gate : (t : Bool) (rest : FileCheck) → cond t rest (Refused Size) ≡ Sound → (t ≡ true) × (rest ≡ Sound)
+sized-gate true rest p = (refl, p)
+sized-gate false rest p = let z : _≡_ {A = ℕ} 0 1 = cc in absurd (omega arith)
+
+pub record BodiesSound (counts bodies : List ℕ) : Type 0 where
+  pub full : length bodies ≡ total counts
+  pub unbroken : brokenBody counts bodies 0 ≡ Sound
+
+pub bodies-sound : (counts bodies : List ℕ) → bodiesCheck counts bodies ≡ Sound → BodiesSound counts bodies
+unfolding bodiesCheck
+bodies-sound counts bodies p =
+    let g = sized-gate (eqb (length bodies) (total counts)) (brokenBody counts bodies 0) p in
+    record { full = eqb-true (length bodies) (total counts) (g .0); unbroken = g .1 }
+
+pub sound-bodies : (counts bodies : List ℕ) → BodiesSound counts bodies → bodiesCheck counts bodies ≡ Sound
+unfolding bodiesCheck
+sound-bodies counts bodies s = rw (eq-eqb (length bodies) (total counts) (s .full)) (s .unbroken)
+
+pub record PartsSound (names counts bodies : List ℕ) : Type 0 where
+  pub least : 1 ≤ length counts
+  pub most : length counts ≤ mostPatterns
+  pub full : length names ≡ nameBytes * length counts
+  pub kept : brokenEntry [] names counts 0 ≡ none
+  pub valid : BodiesSound counts bodies
+
+pub parts-sound : (names counts bodies : List ℕ) → partsCheck names counts bodies ≡ Sound → PartsSound names counts bodies
+unfolding partsCheck
+parts-sound names counts bodies p =
+    let g = gates (leb 1 (length counts)) (leb (length counts) mostPatterns) (eqb (length names) (nameBytes * length counts))
+    (brokenEntry [] names counts 0) (bodiesCheck counts bodies) p in
+    record {
+      least = leb-true 1 (length counts) (g .0);
+      most = leb-true (length counts) mostPatterns (g .1);
+      full = eqb-true (length names) (nameBytes * length counts) (g .2);
+      kept = g .3;
+      valid = bodies-sound counts bodies (g .4);
+    }
+
+pub sound-parts : (names counts bodies : List ℕ) → PartsSound names counts bodies → partsCheck names counts bodies ≡ Sound
+sound-parts names counts bodies s =
+    sym (parts-rest names counts bodies (s .least) (s .most) (s .full)) ∙ rw (s .kept) (sound-bodies counts bodies (s .valid))
+
+pub record RestSound (count : ℕ) (f : List ℕ) : Type 0 where
+  pub least : 1 ≤ count
+  pub most : count ≤ mostPatterns
+  pub held : contentsBytes * count ≤ length f
+  pub kept : brokenContent [] f count (bodiesAt count) 0 ≡ none
+  pub valid : BodiesSound (countsIn f count) (drop (contentsBytes * count) f)
+
+pub rest-sound : (count : ℕ) (f : List ℕ) → restCheck count f ≡ Sound → RestSound count f
+unfolding restCheck
+rest-sound count f p =
+    let g = gates (leb 1 count) (leb count mostPatterns) (leb (contentsBytes * count) (length f))
+    (brokenContent [] f count (bodiesAt count) 0) (bodiesCheck (countsIn f count) (drop (contentsBytes * count) f)) p in
+    record {
+      least = leb-true 1 count (g .0);
+      most = leb-true count mostPatterns (g .1);
+      held = leb-true (contentsBytes * count) (length f) (g .2);
+      kept = g .3;
+      valid = bodies-sound (countsIn f count) (drop (contentsBytes * count) f) (g .4);
+    }
+
+pub sound-rest : (count : ℕ) (f : List ℕ) → RestSound count f → restCheck count f ≡ Sound
+sound-rest count f s =
+    sym (rest-rest count f (s .least) (s .most) (s .held))
+    ∙ rw (s .kept) (sound-bodies (countsIn f count) (drop (contentsBytes * count) f) (s .valid))
 
 -- a file by its count
 pub check-none : (f : List ℕ) → length f ≡ 0 → Refused Count ≡ checkOf f

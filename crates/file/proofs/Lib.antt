@@ -1,3 +1,5 @@
 pub mod Names
 pub mod Turns
 pub mod Checks
+pub mod Writes
+pub mod Finds

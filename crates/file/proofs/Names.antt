@@ -6,11 +6,12 @@ use mathlib.Core.List.{List, [], _∷_}
 use native.Mathlib.Decide.{decLt}
 use native.Mathlib.Numerals.{add-one}
 use native.Mathlib.Omega.{arith}
-use lib.Dec.{ltb}
+use lib.Dec.{ltb, eqb}
 use lib.ListN.{length, getD, drop, drop-of-length-le}
 use lib.Seq.{drop-cons}
 use borrow.Author.Tests.{lt-ltb, le-ltb, eq-eqb, ne-eqb}
 use Rattle.file.specs.Contents.{nameByte, spaces, padded, named, below}
+use Rattle.file.specs.Lookup.{same}
 
 -- padding
 module _ (l : List ℕ) (i : ℕ) (h : i < length l) where
@@ -75,3 +76,25 @@ below-end l m i h k = rw (drop-of-length-le l h) (go (decLt i (length m)))
     go : Dec (i < length m) → below [] (drop i m) ≡ ltb i (length m)
     go (yes p) = rw (drop-cons m i 0 p, lt-ltb i (length m) p)
     go (no p) = rw (drop-of-length-le m {i = i} (omega arith), le-ltb i (length m) (omega arith))
+
+-- the same bytes
+module _ (l m : List ℕ) (i : ℕ) (h : i < length l) where
+  pub same-short : length m ≤ i → same (drop i l) (drop i m) ≡ false
+  unfolding same
+  same-short k = rw (drop-cons l i 0 h, drop-of-length-le m k)
+
+  pub same-other : i < length m → (getD l i 0 ≡ getD m i 0 → ⊥) → same (drop i l) (drop i m) ≡ false
+  unfolding same
+  same-other k n = rw (drop-cons l i 0 h, drop-cons m i 0 k, ne-eqb (getD l i 0) (getD m i 0) n)
+
+  pub same-turn : i < length m → getD l i 0 ≡ getD m i 0 → same (drop i l) (drop i m) ≡ same (drop (i + 1) l) (drop (i + 1) m)
+  unfolding same
+  same-turn k e = rw (add-one i, drop-cons l i 0 h, drop-cons m i 0 k, eq-eqb (getD l i 0) (getD m i 0) e)
+
+pub same-end : (l m : List ℕ) (i : ℕ) → length l ≤ i → i ≤ length m → same (drop i l) (drop i m) ≡ eqb i (length m)
+unfolding same
+same-end l m i h k = rw (drop-of-length-le l h) (go (decLt i (length m)))
+  where
+    go : Dec (i < length m) → same [] (drop i m) ≡ eqb i (length m)
+    go (yes p) = rw (drop-cons m i 0 p, ne-eqb i (length m) (omega arith))
+    go (no p) = rw (drop-of-length-le m {i = i} (omega arith), eq-eqb i (length m) (omega arith))

@@ -52,11 +52,14 @@ bodiesAt count = 1 + contentsBytes * count
 abbrev pub nameOf : List ℕ → ℕ → List ℕ
 nameOf names i = take nameBytes (drop (i * nameBytes) names)
 
--- the contents: name, offset of the body (low byte first), number of entries, a zero byte; each body begins where the previous ends
+-- an entry of the contents: name, offset of the body (low byte first), number of entries, a zero byte
+abbrev pub contentOf : List ℕ → ℕ → ℕ → List ℕ
+contentOf name offset n = name ++ (bytesOf 2 offset ++ (n ∷ 0 ∷ []))
+
+-- the contents: each body begins where the previous ends
 unfoldable pub contents : List ℕ → List ℕ → ℕ → List ℕ
 contents names [] offset = []
-contents names (n ∷ counts) offset =
-    take nameBytes names ++ (bytesOf 2 offset ++ (n ∷ 0 ∷ contents (drop nameBytes names) counts (offset + bodyBytes n)))
+contents names (n ∷ counts) offset = contentOf (take nameBytes names) offset n ++ contents (drop nameBytes names) counts (offset + bodyBytes n)
 
 -- the file of names, numbers of entries (one a pattern) and bodies end to end
 abbrev pub fileOf : List ℕ → List ℕ → List ℕ → List ℕ

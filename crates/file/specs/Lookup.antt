@@ -3,7 +3,6 @@
 use Prim.Native.Nat.{ℕ, zero, suc, _+_, _*_}
 use mathlib.Core.Bool.{Bool, true, false, cond}
 use mathlib.Core.List.{List, [], _∷_}
-use mathlib.Core.Option.{Option, none, some}
 use lib.Dec.{eqb}
 use lib.ListN.{getD, take, drop}
 use Rattle.refusal.specs.declared.Refusal.{Refusal}
@@ -13,6 +12,8 @@ use Rattle.file.specs.declared.FileCheck.{FileCheck}
 use Rattle.file.specs.declared.FileCheck.the-variants as Checks
 use Rattle.file.specs.declared.Whose.{Whose}
 use Rattle.file.specs.declared.Whose.the-variants.{Site, Fleet}
+use Rattle.file.specs.declared.Place.{Place}
+use Rattle.file.specs.declared.Place.the-variants.{At, Nowhere}
 use Rattle.file.specs.declared.Finding.{Finding}
 use Rattle.file.specs.declared.Finding.the-variants.{Found, Broken, Refused}
 use Rattle.file.specs.Contents.{bodyBytes, nameBytes, contentsBytes}
@@ -26,19 +27,18 @@ same (c ∷ l) [] = false
 same (c ∷ l) (d ∷ m) = cond (eqb c d) (same l m) false
 
 -- the offset and the bytes of the body with a name, among k entries of the contents
-unfoldable pub seek : List ℕ → List ℕ → ℕ → Option (ℕ × ℕ)
-seek c name zero = none
-seek c name (suc k) =
-    cond (same (take nameBytes c) name) (some (valueAt 2 c 8, bodyBytes (getD c 10 0))) (seek (drop contentsBytes c) name k)
+unfoldable pub seek : List ℕ → List ℕ → ℕ → Place
+seek c name zero = Nowhere
+seek c name (suc k) = cond (same (take nameBytes c) name) (At (valueAt 2 c 8) (bodyBytes (getD c 10 0))) (seek (drop contentsBytes c) name k)
 
 -- the same in a sound file
-abbrev pub placed : List ℕ → List ℕ → Option (ℕ × ℕ)
-placed [] name = none
+abbrev pub placed : List ℕ → List ℕ → Place
+placed [] name = Nowhere
 placed (count ∷ f) name = seek f name count
 
-abbrev pub inFile : Option (ℕ × ℕ) → Whose → Finding → Finding
-inFile none whose otherwise = otherwise
-inFile (some place) whose otherwise = Found whose (place .0) (place .1)
+abbrev pub inFile : Place → Whose → Finding → Finding
+inFile Nowhere whose otherwise = otherwise
+inFile (At from long) whose otherwise = Found whose from long
 
 abbrev pub ifSound : FileCheck → Whose → Finding → Finding
 ifSound Checks.Sound whose answer = answer

@@ -28,3 +28,14 @@ Named names counts = length names ≡ nameBytes * length counts
 pub record Whole (counts bodies : List ℕ) : Type 0 where
   pub counted : Small counts
   pub full : length bodies ≡ total counts
+
+-- a name, and the bytes of an entry of the contents
+pub record EntryReady (name entry : List ℕ) : Type 0 where
+  pub named : length name ≡ nameBytes
+  pub long : length entry ≡ contentsBytes
+
+-- names, and the bytes of their contents
+pub record ContentsReady (names counts part : List ℕ) : Type 0 where
+  pub few : Few counts
+  pub named : Named names counts
+  pub long : length part ≡ contentsBytes * length counts

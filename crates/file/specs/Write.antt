@@ -1,5 +1,6 @@
 -- What the writer answers, and the slice afterwards (refusals 4, 5, 6, 7, then 8). Assumes nothing: these are definitions.
 use Prim.Native.Nat.{ℕ}
+use mathlib.Core.Path.{_≡_}
 use mathlib.Core.Bool.{cond}
 use mathlib.Core.List.{List, _++_}
 use lib.Dec.{leb}
@@ -26,3 +27,8 @@ writingOf names counts bodies room =
 abbrev pub after : Writing → List ℕ → List ℕ → List ℕ
 after (Written n) file old = file ++ drop n old
 after (Refused r) file old = old
+
+-- what the writer promises
+pub record Wrote (names counts bodies old new : List ℕ) (r : Writing) : Type 0 where
+  pub answer : r ≡ writingOf names counts bodies (length old)
+  pub later : new ≡ after r (fileOf names counts bodies) old
