@@ -3,3 +3,4 @@ pub mod Turns
 pub mod Checks
 pub mod Writes
 pub mod Finds
+pub mod Found

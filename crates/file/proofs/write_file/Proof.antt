@@ -2,7 +2,7 @@
 use Prim.Native.Nat.{_+_, _*_}
 use mathlib.Core.Path.{sym, _∙_}
 use native.Mathlib.Omega.{arith}
-use lib.ListN.{length, length-set}
+use lib.ListN.{length, set, length-set}
 use borrow.Rule.Slice.PartMut.{mid-len}
 use Rattle.file.proofs.Checks.{parts-sound}
 use Rattle.file.proofs.Writes.{wrote-refused, wrote-short, wrote-file}
@@ -66,7 +66,7 @@ write-contents-requires c κs =
     let s = c .before .before in
     let a = s .before .before .before .before .before .before .before .args in
     let p = parts-sound (a .names .now) (a .counts .now) (a .bodies .now) (sym (s .before .before .check-parts .ensures) ∙ s .enum-told .given .1) in
-    record { few = p .most; named = p .full; long = mid-len 1 (1 + 12 * length (a .counts .now)) _ (simp length-set (omega arith)) ∙ omega arith }
+    record { few = p .most; named = p .full; long = mid-len 1 (1 + 12 * length (a .counts .now)) (set (a .file .now) 0 (length (a .counts .now))) (simp length-set (omega arith)) ∙ omega arith }
 
 sub-copy : tie.Need-sub-copy
 sub-copy c = search needs
