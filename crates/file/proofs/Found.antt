@@ -22,13 +22,16 @@ use Rattle.file.specs.declared.Place.the-variants.{At, Nowhere}
 use Rattle.file.specs.declared.Finding.the-variants.{Found, Broken, Refused}
 use Rattle.refusal.specs.declared.Refusal.{Refusal}
 use Rattle.refusal.specs.declared.Refusal.the-variants.{Absent}
-use Rattle.file.specs.Contents.{bodyBytes, nameBytes, contentsBytes, bodiesAt, total}
+use Rattle.file.specs.Contents.{named, bodyBytes, nameBytes, contentsBytes, bodiesAt, total}
 use Rattle.file.specs.Check.{onBody, brokenBody, countsIn, brokenContent, checkOf}
 use Rattle.file.specs.Lookup.{same, seek, placed, inFile, ifSound, findingOf, fileFrom, partOf}
+use Rattle.file.proofs.Order.{same-true}
 use Rattle.file.proofs.Checks.{entry-kept, content-kept, contents-first, rest-sound}
 
--- a part of a file that is a valid body
-pub record BodyIn (file : List ℕ) (from long : ℕ) : Type 0 where
+-- a part of a file that is a valid body, with a name
+pub record BodyIn (file name : List ℕ) (from long : ℕ) : Type 0 where
+  pub counted : length name ≡ nameBytes
+  pub well : named name ≡ true
   pub within : from + long ≤ length file
   pub valid : bodyCheck argumentBytes (take long (drop from file)) ≡ Bodies.Sound
 
@@ -49,46 +52,49 @@ pub body-valid : (b : List ℕ) (n : ℕ) → 1 ≤ n → n ≤ 63 → length b 
 body-valid b n l m e p = check-by argumentBytes b (whole-sized argumentBytes (length b) n (omega arith) l m) ∙ ap (verdict 0) p
 
 seek-found : (file before c name : List ℕ) (k offset i b from long : ℕ) → brokenContent before c k offset i ≡ none
-    → offset + total (countsIn c k) ≡ length file → brokenBody (countsIn c k) (drop offset file) b ≡ Checks.Sound → seek c name k ≡ At from long
-    → BodyIn file from long
+    → offset + total (countsIn c k) ≡ length file → brokenBody (countsIn c k) (drop offset file) b ≡ Checks.Sound → contentsBytes * k ≤ length c → seek c name k ≡ At from long
+    → BodyIn file name from long
 unfolding seek countsIn total
-seek-found file before c name zero offset i b from long p q r s = let z : _≡_ {A = ℕ} 0 1 = cc in absurd (omega arith)
-seek-found file before c name (suc k) offset i b from long p q r s =
+seek-found file before c name zero offset i b from long p q r g s = let z : _≡_ {A = ℕ} 0 1 = cc in absurd (omega arith)
+seek-found file before c name (suc k) offset i b from long p q r g s =
     let n : ℕ = getD c 10 0 in
     let first = contents-first before c k offset i p in
     let kept = content-kept before c offset (first .0) in
     let entry = entry-kept before (take nameBytes c) n (kept .entry) in
     let bodies = bodies-first n (countsIn (drop contentsBytes c) k) (drop offset file) b r in
-    let here : BodyIn file offset (bodyBytes n) =
+    let here : BodyIn file (take nameBytes c) offset (bodyBytes n) =
     record {
+      counted = length-take-le nameBytes c (omega arith);
+      well = entry .well;
       within = omega arith;
       valid =
-        body-valid (take (bodyBytes n) (drop offset file)) n (entry .least) (entry .most)
-        (length-take-le (bodyBytes n) (drop offset file) (omega (arith, length-drop offset file))) (bodies .0);
+          body-valid (take (bodyBytes n) (drop offset file)) n (entry .least) (entry .most)
+          (length-take-le (bodyBytes n) (drop offset file) (omega (arith, length-drop offset file))) (bodies .0);
     } in
-    let later : seek (drop contentsBytes c) name k ≡ At from long → BodyIn file from long =
+    let later : seek (drop contentsBytes c) name k ≡ At from long → BodyIn file name from long =
     seek-found file (take nameBytes c) (drop contentsBytes c) name k (offset + bodyBytes n) (i + 1) (b + 1) from long (first .1) (omega arith)
-    (rw (← drop-drop (bodyBytes n) offset file) (bodies .1)) in
-    go (same (take nameBytes c) name) (kept .begins) here later s
+    (rw (← drop-drop (bodyBytes n) offset file) (bodies .1)) (omega (arith, length-drop contentsBytes c)) in
+    go (same (take nameBytes c) name) refl (kept .begins) here later s
   where
-    go : (t : Bool) → valueAt 2 c 8 ≡ offset → BodyIn file offset (bodyBytes (getD c 10 0))
-        → (seek (drop contentsBytes c) name k ≡ At from long → BodyIn file from long)
-        → cond t (At (valueAt 2 c 8) (bodyBytes (getD c 10 0))) (seek (drop contentsBytes c) name k) ≡ At from long → BodyIn file from long
-    go true e here later s =
+    go : (t : Bool) → same (take nameBytes c) name ≡ t → valueAt 2 c 8 ≡ offset → BodyIn file (take nameBytes c) offset (bodyBytes (getD c 10 0))
+        → (seek (drop contentsBytes c) name k ≡ At from long → BodyIn file name from long)
+        → cond t (At (valueAt 2 c 8) (bodyBytes (getD c 10 0))) (seek (drop contentsBytes c) name k) ≡ At from long → BodyIn file name from long
+    go true u e here later s =
+        let m : take nameBytes c ≡ name = same-true (take nameBytes c) name u in
         let f : offset ≡ from = cc in
         let l : bodyBytes (getD c 10 0) ≡ long = cc in
-        rw (← f, ← l) here
-    go false e here later s = later s
+        rw (← f, ← l, ← m) here
+    go false u e here later s = later s
 
 -- the body with a name in a sound file
-pub placed-found : (file name : List ℕ) (from long : ℕ) → checkOf file ≡ Checks.Sound → placed file name ≡ At from long → BodyIn file from long
+pub placed-found : (file name : List ℕ) (from long : ℕ) → checkOf file ≡ Checks.Sound → placed file name ≡ At from long → BodyIn file name from long
 unfolding checkOf
 placed-found [] name from long p s = let z : _≡_ {A = ℕ} 0 1 = cc in absurd (omega arith)
 placed-found (count ∷ f) name from long p s =
     let k = rest-sound count f p in
     seek-found (count ∷ f) [] f name count (bodiesAt count) 0 0 from long (k .kept)
     (omega (arith, k .held, k .valid .full, length-drop (contentsBytes * count) f))
-    (rw (← drop-drop (contentsBytes * count) 1 (count ∷ f)) (k .valid .unbroken)) s
+    (rw (← drop-drop (contentsBytes * count) 1 (count ∷ f)) (k .valid .unbroken)) (k .held) s
 
 -- what a lookup found is what the search in one of the sound files found
 found-by : (site fleet : FileCheck) (a b : Place) (whose : Whose) (from long : ℕ)
@@ -112,10 +118,10 @@ found-by Checks.Sound Checks.Sound Nowhere (At x y) whose from long p P f g =
 found-by Checks.Sound Checks.Sound Nowhere Nowhere whose from long p P f g = let z : _≡_ {A = ℕ} 0 1 = cc in absurd (omega arith)
 
 pub finding-found : (site fleet name : List ℕ) (whose : Whose) (from long : ℕ) → findingOf site fleet name ≡ Found whose from long
-    → BodyIn (fileFrom whose site fleet) from long
+    → BodyIn (fileFrom whose site fleet) name from long
 unfolding findingOf
 finding-found site fleet name whose from long p =
-    found-by (checkOf site) (checkOf fleet) (placed site name) (placed fleet name) whose from long p (λ w f l. BodyIn (fileFrom w site fleet) f l)
+    found-by (checkOf site) (checkOf fleet) (placed site name) (placed fleet name) whose from long p (λ w f l. BodyIn (fileFrom w site fleet) name f l)
     (placed-found site name) (placed-found fleet name)
 
 -- the part that a lookup returns, one law for each way out

@@ -3,4 +3,7 @@ pub mod Turns
 pub mod Checks
 pub mod Writes
 pub mod Finds
+pub mod Files
+pub mod Order
 pub mod Found
+pub mod Theorem

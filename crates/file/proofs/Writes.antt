@@ -37,8 +37,8 @@ copy-more bytes part i h k =
       upto = omega arith;
       long = length-set part i v ∙ k .long;
       made =
-        rw (add-one i, take-suc-set part i v (omega (arith, k .long)), append-snoc (take i part) v (drop (suc i) bytes), ← drop-cons bytes i 0 h)
-        (k .made);
+          rw (add-one i, take-suc-set part i v (omega (arith, k .long)), append-snoc (take i part) v (drop (suc i) bytes), ← drop-cons bytes i 0 h)
+          (k .made);
     }
 
 pub copy-all : (bytes part : List ℕ) (i : ℕ) → length bytes ≤ i → CopiedTo bytes part i → part ≡ bytes
@@ -75,7 +75,7 @@ filled-none names counts part h l = record { upto = omega arith; read = omega ar
 
 -- one entry more
 module _ (names counts part : List ℕ) (i from at offset : ℕ) (full : length names ≡ nameBytes * length counts) (h : i < length counts)
-  (k : Filled names counts part i from at offset) where
+    (k : Filled names counts part i from at offset) where
   pub name-long : length (take (from + nameBytes - from) (drop from names)) ≡ nameBytes
   name-long =
       length-take-le (from + nameBytes - from) (drop from names) (omega (arith, k .read, length-drop from names)) ∙ omega arith
@@ -107,7 +107,7 @@ module _ (names counts part : List ℕ) (i from at offset : ℕ) (full : length 
       place = omega (arith, k .place);
       near = omega (arith, k .near);
       long = same-len-mid at (at + contentsBytes - at) part e
-        (entry-long ∙ sym (mid-len at (at + contentsBytes) part (omega (arith, k .long, k .place)) ∙ omega arith)) ∙ k .long;
+          (entry-long ∙ sym (mid-len at (at + contentsBytes) part (omega (arith, k .long, k .place)) ∙ omega arith)) ∙ k .long;
       made = rw (front, p, append-assoc (take at part) e (contents (drop (from + nameBytes) names) (drop (i + 1) counts) (offset + bodyBytes (getD counts i 0))), ← contents-turn) (k .made);
     }
 
@@ -175,8 +175,8 @@ module _ (names counts bodies old : List ℕ) where
     wrote-file c b q r h = record {
       answer = rw (p, length-file, le-leb (bodiesAt (length counts) + length bodies) (length old) h);
       later =
-        file-written (length counts) old c b (bodiesAt (length counts)) (bodiesAt (length counts) + length bodies)
-        (omega (arith, ap length q, length-contents names counts (bodiesAt (length counts)) (parts-sound names counts bodies p .full)))
-        (omega (arith, ap length r)) h
-        ∙ rw (q, r) refl;
+          file-written (length counts) old c b (bodiesAt (length counts)) (bodiesAt (length counts) + length bodies)
+          (omega (arith, ap length q, length-contents names counts (bodiesAt (length counts)) (parts-sound names counts bodies p .full)))
+          (omega (arith, ap length r)) h
+          ∙ rw (q, r) refl;
     }

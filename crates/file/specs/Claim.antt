@@ -1,19 +1,22 @@
 -- What is claimed of pattern files. Assumes nothing: these are definitions.
-use Prim.Native.Nat.{ℕ, _<_}
+use Prim.Native.Nat.{ℕ, _+_, _≤_, _<_}
 use mathlib.Core.Path.{_≡_}
 use mathlib.Core.Logic.{_↔_}
-use mathlib.Core.List.{List, [], _∷_}
-use lib.ListN.{length, getD}
+use mathlib.Core.Bool.{true}
+use mathlib.Core.List.{List}
+use lib.ListN.{length, getD, take}
 use Rattle.rules.specs.Limits.{argumentBytes}
+use Rattle.refusal.specs.declared.Refusal.the-variants.{Absent}
 use Rattle.body.specs.declared.BodyCheck.the-variants as Bodies
 use Rattle.body.specs.Bytes.{Bytes}
 use Rattle.body.specs.Check.{checkOf as bodyCheck}
 use Rattle.file.specs.declared.FileCheck.the-variants.{Sound}
 use Rattle.file.specs.declared.Whose.{Whose}
-use Rattle.file.specs.declared.Finding.the-variants.{Found}
-use Rattle.file.specs.Contents.{nameOf, fileOf}
+use Rattle.file.specs.declared.Whose.the-variants.{Site, Fleet}
+use Rattle.file.specs.declared.Finding.the-variants.{Found, Refused}
+use Rattle.file.specs.Contents.{named, bodyBytes, nameBytes, bodiesAt, nameOf, fileOf, total}
 use Rattle.file.specs.Check.{partsCheck, checkOf}
-use Rattle.file.specs.Lookup.{findingOf, partOf}
+use Rattle.file.specs.Lookup.{findingOf, fileFrom, partOf}
 
 -- the parts of a file that the writer would write: its names, numbers of entries and bodies
 pub record PartsOf (f names counts bodies : List ℕ) : Type 0 where
@@ -38,8 +41,52 @@ OneName =
     (names counts bodies : List ℕ) → partsCheck names counts bodies ≡ Sound
     → (i j : ℕ) → i < length counts → j < length counts → nameOf names i ≡ nameOf names j → i ≡ j
 
+-- what the writer writes is accepted
+abbrev pub WrittenAccepted : Type 0
+WrittenAccepted = (names counts bodies : List ℕ) → partsCheck names counts bodies ≡ Sound → checkOf (fileOf names counts bodies) ≡ Sound
+
 -- a part that a lookup found is a valid body
 abbrev pub FoundBody : Type 0
 FoundBody =
-    (site fleet name : List ℕ) (whose : Whose) (from long : ℕ) → Bytes site → Bytes fleet
+    (site fleet name : List ℕ) (whose : Whose) (from long : ℕ)
     → findingOf site fleet name ≡ Found whose from long → bodyCheck argumentBytes (partOf (Found whose from long) site fleet) ≡ Bodies.Sound
+
+-- and lies in its file
+abbrev pub FoundWithin : Type 0
+FoundWithin =
+    (site fleet name : List ℕ) (whose : Whose) (from long : ℕ)
+    → findingOf site fleet name ≡ Found whose from long → from + long ≤ length (fileFrom whose site fleet)
+
+-- and its name is one: a name that is malformed is in neither file
+abbrev pub FoundNamed : Type 0
+FoundNamed =
+    (site fleet name : List ℕ) (whose : Whose) (from long : ℕ)
+    → findingOf site fleet name ≡ Found whose from long → (length name ≡ nameBytes) × (named name ≡ true)
+
+-- where body number i begins
+abbrev pub bodyAt : List ℕ → ℕ → ℕ
+bodyAt counts i = bodiesAt (length counts) + total (take i counts)
+
+-- a name is none of those of a file
+abbrev pub Lacks : List ℕ → List ℕ → List ℕ → Type 0
+Lacks names counts name = (j : ℕ) → j < length counts → nameOf names j ≡ name → ⊥
+
+-- a name of the site file is found there, with its own body
+abbrev pub FoundInSite : Type 0
+FoundInSite =
+    (site fleet names counts bodies : List ℕ) → PartsOf site names counts bodies → checkOf fleet ≡ Sound
+    → (i : ℕ) → i < length counts
+    → findingOf site fleet (nameOf names i) ≡ Found Site (bodyAt counts i) (bodyBytes (getD counts i 0))
+
+-- a name of the fleet file that the site file lacks is found there, with its own body
+abbrev pub FoundInFleet : Type 0
+FoundInFleet =
+    (site fleet names counts bodies names′ counts′ bodies′ : List ℕ) → PartsOf site names counts bodies → PartsOf fleet names′ counts′ bodies′
+    → (i : ℕ) → i < length counts′ → Lacks names counts (nameOf names′ i)
+    → findingOf site fleet (nameOf names′ i) ≡ Found Fleet (bodyAt counts′ i) (bodyBytes (getD counts′ i 0))
+
+-- a name that both files lack is Absent
+abbrev pub AbsentFromBoth : Type 0
+AbsentFromBoth =
+    (site fleet name names counts bodies names′ counts′ bodies′ : List ℕ) → PartsOf site names counts bodies → PartsOf fleet names′ counts′ bodies′
+    → Lacks names counts name → Lacks names′ counts′ name → findingOf site fleet name ≡ Refused Absent

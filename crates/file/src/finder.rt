@@ -17,7 +17,10 @@ pub fn find(file: &[u8], name: &[u8]) -> Place
     let mut at: usize = 1;
     while i < count {
         if is_same(&file[at..at + 8], name) {
-            return Place::At(contents::offset_of(&file[at..]), parts::wide(file[at + 10]) * 5);
+            return Place::At(
+                contents::offset_of(&file[at..]),
+                parts::wide(file[at + 10]) * 5,
+            );
         }
         at += 12;
         i += 1;

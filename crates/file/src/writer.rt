@@ -15,7 +15,12 @@ pub fn write_contents(names: &[u8], counts: &[u8], part: &mut [u8])
     let mut at: usize = 0;
     let mut offset = 1 + 12 * counts.len();
     while i < counts.len() {
-        write_entry(&names[from..from + 8], offset, counts[i], &mut part[at..at + 12]);
+        write_entry(
+            &names[from..from + 8],
+            offset,
+            counts[i],
+            &mut part[at..at + 12],
+        );
         offset += parts::wide(counts[i]) * 5;
         from += 8;
         at += 12;

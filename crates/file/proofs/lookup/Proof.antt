@@ -26,8 +26,11 @@ add-result c =
     let a = l .before .before .before .before .args in
     let from = w .whose .given .0 .1 .0 in
     let long = w .whose .given .0 .1 .1 .0 in
-    omega (arith, finding-found (a .site .now) (a .fleet .now) (a .name .now) Site from long
-    (sym (l .looked-up .ensures) ∙ w .whose .given .1 ∙ ap (λ (x : Whose). Found x from long) (t .enum-told .given .1)) .within)
+    omega (
+      arith,
+      finding-found (a .site .now) (a .fleet .now) (a .name .now) Site from long
+          (sym (l .looked-up .ensures) ∙ w .whose .given .1 ∙ ap (λ (x : Whose). Found x from long) (t .enum-told .given .1)) .within,
+    )
 
 sub-result : tie.Need-sub-result
 sub-result c = search needs
@@ -57,8 +60,11 @@ add-result-2 c =
     let a = l .before .before .before .before .args in
     let from = w .whose .given .0 .1 .0 in
     let long = w .whose .given .0 .1 .1 .0 in
-    omega (arith, finding-found (a .site .now) (a .fleet .now) (a .name .now) Fleet from long
-    (sym (l .looked-up .ensures) ∙ w .whose .given .1 ∙ ap (λ (x : Whose). Found x from long) (t .enum-told2 .given .1)) .within)
+    omega (
+      arith,
+      finding-found (a .site .now) (a .fleet .now) (a .name .now) Fleet from long
+          (sym (l .looked-up .ensures) ∙ w .whose .given .1 ∙ ap (λ (x : Whose). Found x from long) (t .enum-told2 .given .1)) .within,
+    )
 
 sub-result-2 : tie.Need-sub-result-2
 sub-result-2 c = search needs
