@@ -67,7 +67,8 @@ fn content_kept(before: &[u8], contents: &[u8], offset: usize) -> bool
     if !parts::entry_kept(before, &contents[0..8], contents[10]) {
         return false;
     }
-    if offset_of(contents) != offset {
+    let begins = offset_of(contents);
+    if begins != offset {
         return false;
     }
     contents[11] == 0
