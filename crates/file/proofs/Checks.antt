@@ -18,7 +18,7 @@ use Rattle.file.specs.declared.FileCheck.{FileCheck}
 use Rattle.file.specs.declared.FileCheck.the-variants.{Sound, Refused}
 use Rattle.file.specs.Contents.{named, below, bodyBytes, nameBytes, contentsBytes, bodiesAt, total}
 use Rattle.file.specs.Check.{entryKept, brokenEntry, brokenBody, onEntry, bodiesCheck, partsCheck}
-use Rattle.file.specs.Check.{namesIn, countsIn, contentKept, brokenContent, restCheck, checkOf}
+use Rattle.file.specs.Check.{countsIn, contentKept, brokenContent, restCheck, checkOf}
 use Rattle.file.specs.Ready.{Small}
 
 -- an entry refuses, or what follows is asked
@@ -76,7 +76,8 @@ module _ (count : ℕ) (f : List ℕ) where
       rest-short h = rw (le-leb 1 count least, le-leb count mostPatterns most, lt-leb (contentsBytes * count) (length f) h)
 
       module _ (held : contentsBytes * count ≤ length f) where
-        pub rest-rest : onEntry (brokenContent [] f count (bodiesAt count) 0) (bodiesCheck (countsIn f count) (drop (contentsBytes * count) f)) ≡ restCheck count f
+        pub rest-rest : onEntry (brokenContent [] f count (bodiesAt count) 0) (bodiesCheck (countsIn f count) (drop (contentsBytes * count) f))
+            ≡ restCheck count f
         unfolding restCheck
         rest-rest = rw (le-leb 1 count least, le-leb count mostPatterns most, le-leb (contentsBytes * count) (length f) held)
 
@@ -255,7 +256,8 @@ length-counts c (suc k) = ap suc (length-counts (drop contentsBytes c) k)
 pub parts-small : (names counts : List ℕ) → length counts ≤ mostPatterns → onEntry (brokenEntry [] names counts 0) Sound ≡ Sound → Small counts
 parts-small names counts h p = record { few = h; small = entries-small [] names counts 0 (entry-sound _ p) }
 
-pub rest-small : (count : ℕ) (f : List ℕ) → count ≤ mostPatterns → onEntry (brokenContent [] f count (bodiesAt count) 0) Sound ≡ Sound → Small (countsIn f count)
+pub rest-small : (count : ℕ) (f : List ℕ) → count ≤ mostPatterns → onEntry (brokenContent [] f count (bodiesAt count) 0) Sound ≡ Sound
+    → Small (countsIn f count)
 rest-small count f h p = record {
   few = omega (arith, length-counts f count);
   small = contents-small [] f count (bodiesAt count) 0 (entry-sound _ p);

@@ -1,21 +1,20 @@
 -- A file's contents and the names and numbers of entries that they hold: each gives the other back. An entry is read from its own bytes, and those
 -- after it from what follows them. Assumes nothing.
-use Prim.Native.Nat.{ℕ, zero, suc, _+_, _*_, _/_, _%_, _≤_, _<_}
+use Prim.Native.Nat.{ℕ, zero, suc, _+_, _*_, _≤_, _<_}
 use mathlib.Core.Path.{_≡_, refl, sym, ap, ap₂, _∙_}
-use mathlib.Core.Bool.{true}
 use mathlib.Core.List.{List, [], _∷_, _++_, append-assoc}
 use mathlib.Core.Option.{none}
 use native.Mathlib.Omega.{arith}
 use lib.ListN.{length, getD, take, drop, length-append, length-drop, take-append-drop}
-use lib.Seq.{length-take-le, getD-drop, take-at, drop-at, take-add, drop-drop, drop-cons, take-all}
+use lib.Seq.{length-take-le, getD-drop, take-at, drop-at, take-add, drop-drop}
 use borrow.Author.Tests.{eq-eqb}
 use Rattle.rules.specs.Limits.{mostEntries}
 use Rattle.body.specs.Bytes.{bytesOf, valueAt, Bytes}
 use Rattle.body.proofs.Bytes.{value-drop, value-bytes, bytes-value}
 use Rattle.file.specs.declared.FileCheck.the-variants.{Sound}
 use Rattle.file.specs.Contents.{bodyBytes, nameBytes, contentsBytes, bodiesAt, contentOf, contents, fileOf, total}
-use Rattle.file.specs.Check.{entryKept, brokenEntry, namesIn, countsIn, contentKept, brokenContent, partsCheck, checkOf}
-use Rattle.file.specs.Claim.{PartsOf}
+use Rattle.file.specs.Check.{brokenEntry, namesIn, countsIn, contentKept, brokenContent, partsCheck, checkOf}
+use Rattle.file.specs.Claim.{PartsOf, Parts}
 use Rattle.file.proofs.Checks.{entries-first, entries-small, content-kept, contents-first, length-counts}
 use Rattle.file.proofs.Checks.{PartsSound, parts-sound, sound-parts, RestSound, rest-sound, sound-rest}
 use Rattle.file.proofs.Writes.{length-content, length-contents}
@@ -101,7 +100,8 @@ module _ (rest : List ℕ) where
         first .0,
         eq-eqb offset offset refl,
       )
-      (contents-kept name (drop nameBytes names) counts (offset + bodyBytes n) (i + 1) (omega (arith, length-drop nameBytes names)) (omega arith) (first .1))
+      (contents-kept name (drop nameBytes names) counts (offset + bodyBytes n) (i + 1) (omega (arith, length-drop nameBytes names)) (omega arith)
+      (first .1))
 
 -- bytes of parts of a list of bytes
 bytes-append : (a b : List ℕ) → Bytes a → Bytes b → Bytes (a ++ b)
@@ -213,15 +213,6 @@ unfolding checkOf
 written-sound names counts bodies p = sound-rest (length counts) _ (rest-made names counts bodies (parts-sound names counts bodies p))
 
 -- the parts of a file that is accepted
-pub record Parts (f : List ℕ) : Type 0 where
-  pub names : List ℕ
-  pub counts : List ℕ
-  pub bodies : List ℕ
-  pub names-bytes : Bytes names
-  pub counts-bytes : Bytes counts
-  pub bodies-bytes : Bytes bodies
-  pub parts : PartsOf f names counts bodies
-
 pub accepted-parts : (f : List ℕ) → Bytes f → checkOf f ≡ Sound → Parts f
 unfolding checkOf
 accepted-parts [] w p = let z : _≡_ {A = ℕ} 0 1 = cc in absurd (omega arith)
@@ -255,7 +246,9 @@ accepted-parts (count ∷ f) w p =
 
 -- the parts of a file are read from it
 pub parts-read : (f names counts bodies : List ℕ) → PartsOf f names counts bodies
-    → (names ≡ namesIn (drop 1 f) (getD f 0 0)) × (counts ≡ countsIn (drop 1 f) (getD f 0 0)) × (bodies ≡ drop (contentsBytes * getD f 0 0) (drop 1 f))
+    → (names ≡ namesIn (drop 1 f) (getD f 0 0))
+    × (counts ≡ countsIn (drop 1 f) (getD f 0 0))
+    × (bodies ≡ drop (contentsBytes * getD f 0 0) (drop 1 f))
 parts-read f names counts bodies k =
     let s = parts-sound names counts bodies (k .sound) in
     let at : ℕ = bodiesAt (length counts) in

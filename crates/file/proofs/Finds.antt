@@ -1,6 +1,6 @@
 -- A turn of the search for a name in a sound file, and each way out. Assumes nothing.
 use Prim.Native.Nat.{ℕ, _+_, _-_, _*_, _≤_, _<_}
-use mathlib.Core.Path.{_≡_, refl, sym, ap, ap₂, _∙_}
+use mathlib.Core.Path.{_≡_, refl, sym, ap₂, _∙_}
 use mathlib.Core.Bool.{true, false, cond}
 use mathlib.Core.List.{List, [], _∷_}
 use native.Mathlib.Nat.{sub-zero}
@@ -20,7 +20,7 @@ use Rattle.file.specs.Contents.{bodyBytes, nameBytes, contentsBytes}
 use Rattle.file.specs.Check.{checkOf}
 use Rattle.file.specs.Lookup.{same, seek, placed, inFile, findingOf}
 use Rattle.file.proofs.Turns.{rest-part}
-use Rattle.file.proofs.Checks.{RestSound, rest-sound}
+use Rattle.file.proofs.Checks.{rest-sound}
 
 -- the name is not among the first i entries of a file's contents
 pub record Sought (file name : List ℕ) (count i at : ℕ) : Type 0 where
@@ -44,7 +44,7 @@ sought-none (x ∷ f) name count e p = record {
   rest = rw (sub-zero count, e) refl;
 }
 
-module _ (file name : List ℕ) (count i at : ℕ) (h : i < count) (k : Sought file name count i at) where
+module _ {file name : List ℕ} {count i at : ℕ} (k : Sought file name count i at) (h : i < count) where
   seek-turn : seek (drop at file) name (count - i)
       ≡ cond (same (take (at + nameBytes - at) (drop at file)) name)
       (At (valueAt 2 (take (length file - at) (drop at file)) 8) (bodyBytes (getD file (at + 10) 0)))
@@ -54,16 +54,16 @@ module _ (file name : List ℕ) (count i at : ℕ) (h : i < count) (k : Sought f
       let long : at + nameBytes - at ≡ nameBytes = omega arith in
       rw (left-suc count i h, long, rest-part file at, getD-drop at file 10 0, drop-drop contentsBytes at file)
 
-  pub sought-here : (from n : ℕ) → same (take (at + nameBytes - at) (drop at file)) name ≡ true
+  pub sought-here : {from n : ℕ} → same (take (at + nameBytes - at) (drop at file)) name ≡ true
       → from ≡ valueAt 2 (take (length file - at) (drop at file)) 8 → n ≡ getD file (at + 10) 0 → At from (bodyBytes n) ≡ placed file name
-  sought-here from n p q r = rw (q, r) (rw (seek-turn, p) at (k .rest))
+  sought-here p q r = rw (q, r) (rw (seek-turn, p) at (k .rest))
 
   pub sought-more : same (take (at + nameBytes - at) (drop at file)) name ≡ false → Sought file name count (i + 1) (at + contentsBytes)
   sought-more p = record { held = k .held; upto = omega arith; place = omega (arith, k .place); rest = rw (seek-turn, p) at (k .rest) }
 
-pub sought-all : (file name : List ℕ) (count i at : ℕ) → count ≤ i → Sought file name count i at → Nowhere ≡ placed file name
+pub sought-all : {file name : List ℕ} {count i at : ℕ} → Sought file name count i at → count ≤ i → Nowhere ≡ placed file name
 unfolding seek
-sought-all file name count i at h k = rw (left-zero count i h) at (k .rest)
+sought-all {count = count} {i = i} k h = rw (left-zero count i h) at (k .rest)
 
 -- the answer of a lookup, one law for each way out
 module _ (site fleet name : List ℕ) where

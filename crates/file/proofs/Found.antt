@@ -1,6 +1,6 @@
 -- What a search in a sound file finds lies in the file and is a valid body: an entry's offset is where its body begins. Assumes nothing.
 use Prim.Native.Nat.{ℕ, zero, suc, _+_, _-_, _*_, _≤_}
-use mathlib.Core.Path.{_≡_, refl, sym, ap, ap₂, _∙_}
+use mathlib.Core.Path.{_≡_, refl, ap, _∙_}
 use mathlib.Core.Bool.{Bool, true, false, cond}
 use mathlib.Core.List.{List, [], _∷_}
 use mathlib.Core.Option.{Option, none, some}
@@ -52,8 +52,8 @@ pub body-valid : (b : List ℕ) (n : ℕ) → 1 ≤ n → n ≤ 63 → length b 
 body-valid b n l m e p = check-by argumentBytes b (whole-sized argumentBytes (length b) n (omega arith) l m) ∙ ap (verdict 0) p
 
 seek-found : (file before c name : List ℕ) (k offset i b from long : ℕ) → brokenContent before c k offset i ≡ none
-    → offset + total (countsIn c k) ≡ length file → brokenBody (countsIn c k) (drop offset file) b ≡ Checks.Sound → contentsBytes * k ≤ length c → seek c name k ≡ At from long
-    → BodyIn file name from long
+    → offset + total (countsIn c k) ≡ length file → brokenBody (countsIn c k) (drop offset file) b ≡ Checks.Sound → contentsBytes * k ≤ length c
+    → seek c name k ≡ At from long → BodyIn file name from long
 unfolding seek countsIn total
 seek-found file before c name zero offset i b from long p q r g s = let z : _≡_ {A = ℕ} 0 1 = cc in absurd (omega arith)
 seek-found file before c name (suc k) offset i b from long p q r g s =
@@ -121,8 +121,8 @@ pub finding-found : (site fleet name : List ℕ) (whose : Whose) (from long : �
     → BodyIn (fileFrom whose site fleet) name from long
 unfolding findingOf
 finding-found site fleet name whose from long p =
-    found-by (checkOf site) (checkOf fleet) (placed site name) (placed fleet name) whose from long p (λ w f l. BodyIn (fileFrom w site fleet) name f l)
-    (placed-found site name) (placed-found fleet name)
+    found-by (checkOf site) (checkOf fleet) (placed site name) (placed fleet name) whose from long p
+    (λ w f l. BodyIn (fileFrom w site fleet) name f l) (placed-found site name) (placed-found fleet name)
 
 -- the part that a lookup returns, one law for each way out
 module _ (site fleet name : List ℕ) where

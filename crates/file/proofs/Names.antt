@@ -1,7 +1,7 @@
--- A turn of each loop over the bytes of names, and each way out. Assumes nothing.
+-- The loops over the bytes of names: the bytes passed are right, and those left decide. A turn of each, and each way out. Assumes nothing.
 use Prim.Native.Nat.{ℕ, _+_, _≤_, _<_}
-use mathlib.Core.Path.{_≡_, refl, sym, ap, _∙_}
-use mathlib.Core.Bool.{Bool, true, false, cond}
+use mathlib.Core.Path.{_≡_, refl, _∙_}
+use mathlib.Core.Bool.{true, false, cond}
 use mathlib.Core.List.{List, [], _∷_}
 use native.Mathlib.Decide.{decLt}
 use native.Mathlib.Numerals.{add-one}
@@ -13,88 +13,130 @@ use borrow.Author.Tests.{lt-ltb, le-ltb, eq-eqb, ne-eqb}
 use Rattle.file.specs.Contents.{nameByte, spaces, padded, named, below}
 use Rattle.file.specs.Lookup.{same}
 
--- padding
-module _ (l : List ℕ) (i : ℕ) (h : i < length l) where
-  pub spaces-turn : getD l i 0 ≡ 32 → spaces (drop i l) ≡ spaces (drop (i + 1) l)
+-- the bytes from a place on were spaces as far as i
+pub record Spaced (l : List ℕ) (from i : ℕ) : Type 0 where
+  pub upto : i ≤ length l
+  pub left : spaces (drop i l) ≡ spaces (drop from l)
+
+module _ {l : List ℕ} {from i : ℕ} (k : Spaced l from i) where
+  module _ (h : i < length l) where
+    pub spaces-turn : getD l i 0 ≡ 32 → Spaced l from (i + 1)
+    unfolding spaces
+    spaces-turn e = record { upto = omega arith; left = rw (add-one i) (rw (drop-cons l i 0 h, eq-eqb (getD l i 0) 32 e) at (k .left)) }
+
+    pub spaces-other : (getD l i 0 ≡ 32 → ⊥) → false ≡ spaces (drop from l)
+    unfolding spaces
+    spaces-other e = rw (drop-cons l i 0 h, ne-eqb (getD l i 0) 32 e) at (k .left)
+
+  pub spaces-end : length l ≤ i → true ≡ spaces (drop from l)
   unfolding spaces
-  spaces-turn e = rw (drop-cons l i 0 h, eq-eqb (getD l i 0) 32 e, add-one i)
+  spaces-end h = rw (drop-of-length-le l h) at (k .left)
 
-  pub spaces-other : (getD l i 0 ≡ 32 → ⊥) → spaces (drop i l) ≡ false
-  unfolding spaces
-  spaces-other e = rw (drop-cons l i 0 h, ne-eqb (getD l i 0) 32 e)
+-- the bytes before i are letters and digits, at least one
+pub record Lettered (l : List ℕ) (i : ℕ) : Type 0 where
+  pub upto : i ≤ length l
+  pub left : padded (drop i l) ≡ named l
 
-  pub padded-turn : nameByte (getD l i 0) ≡ true → padded (drop i l) ≡ padded (drop (i + 1) l)
-  unfolding padded
-  padded-turn e = rw (drop-cons l i 0 h, e, add-one i)
-
-  pub padded-spaces : nameByte (getD l i 0) ≡ false → padded (drop i l) ≡ spaces (drop i l)
-  unfolding padded spaces
-  padded-spaces e = rw (drop-cons l i 0 h, e)
-
-pub spaces-end : (l : List ℕ) (i : ℕ) → length l ≤ i → spaces (drop i l) ≡ true
-unfolding spaces
-spaces-end l i h = rw (drop-of-length-le l h)
-
-pub padded-end : (l : List ℕ) (i : ℕ) → length l ≤ i → padded (drop i l) ≡ true
-unfolding padded
-padded-end l i h = rw (drop-of-length-le l h)
-
--- a name by its first byte
-pub named-none : (l : List ℕ) → length l ≡ 0 → named l ≡ false
+pub named-none : (l : List ℕ) → length l ≡ 0 → false ≡ named l
 unfolding named
 named-none [] h = refl
 named-none (c ∷ l) h = absurd (omega arith)
 
-pub named-first : (l : List ℕ) → 0 < length l → named l ≡ cond (nameByte (getD l 0 0)) (padded (drop 1 l)) false
+named-first : (l : List ℕ) → 0 < length l → cond (nameByte (getD l 0 0)) (padded (drop 1 l)) false ≡ named l
 unfolding named
 named-first [] h = absurd (omega arith)
 named-first (c ∷ l) h = refl
 
--- byte order
-module _ (l m : List ℕ) (i : ℕ) (h : i < length l) where
-  pub below-short : length m ≤ i → below (drop i l) (drop i m) ≡ false
+module _ (l : List ℕ) (h : 0 < length l) where
+  pub named-other : nameByte (getD l 0 0) ≡ false → false ≡ named l
+  named-other e = rw e at (named-first l h)
+
+  pub named-one : nameByte (getD l 0 0) ≡ true → Lettered l 1
+  named-one e = record { upto = omega arith; left = rw e at (named-first l h) }
+
+module _ {l : List ℕ} {i : ℕ} (k : Lettered l i) where
+  module _ (h : i < length l) where
+    pub named-turn : nameByte (getD l i 0) ≡ true → Lettered l (i + 1)
+    unfolding padded
+    named-turn e = record { upto = omega arith; left = rw (add-one i) (rw (drop-cons l i 0 h, e) at (k .left)) }
+
+    pub named-spaces : nameByte (getD l i 0) ≡ false → spaces (drop i l) ≡ named l
+    unfolding padded spaces
+    named-spaces e = rw (drop-cons l i 0 h) (rw (drop-cons l i 0 h, e) at (k .left))
+
+  pub named-end : length l ≤ i → true ≡ named l
+  unfolding padded
+  named-end h = rw (drop-of-length-le l h) at (k .left)
+
+-- two names have the same bytes before i, and their byte order is that of the rest
+pub record Ordered (l m : List ℕ) (i : ℕ) : Type 0 where
+  pub upto : i ≤ length l
+  pub upto′ : i ≤ length m
+  pub left : below (drop i l) (drop i m) ≡ below l m
+
+module _ {l m : List ℕ} {i : ℕ} (k : Ordered l m i) where
+  module _ (h : i < length l) where
+    pub below-short : length m ≤ i → false ≡ below l m
+    unfolding below
+    below-short j = rw (drop-cons l i 0 h, drop-of-length-le m j) at (k .left)
+
+    module _ (j : i < length m) where
+      pub below-less : getD l i 0 < getD m i 0 → true ≡ below l m
+      unfolding below
+      below-less e = rw (drop-cons l i 0 h, drop-cons m i 0 j, lt-ltb (getD l i 0) (getD m i 0) e) at (k .left)
+
+      pub below-more : getD m i 0 ≤ getD l i 0 → (getD l i 0 ≡ getD m i 0 → ⊥) → false ≡ below l m
+      unfolding below
+      below-more e n =
+          rw (drop-cons l i 0 h, drop-cons m i 0 j, le-ltb (getD l i 0) (getD m i 0) e, ne-eqb (getD l i 0) (getD m i 0) n) at (k .left)
+
+      pub below-turn : getD l i 0 ≡ getD m i 0 → Ordered l m (i + 1)
+      unfolding below
+      below-turn e =
+          let stays : ltb (getD l i 0) (getD m i 0) ≡ false = le-ltb (getD l i 0) (getD m i 0) (omega arith) in
+          record {
+            upto = omega arith;
+            upto′ = omega arith;
+            left = rw (add-one i) (rw (drop-cons l i 0 h, drop-cons m i 0 j, stays, eq-eqb (getD l i 0) (getD m i 0) e) at (k .left));
+          }
+
+  pub below-end : length l ≤ i → ltb i (length m) ≡ below l m
   unfolding below
-  below-short k = rw (drop-cons l i 0 h, drop-of-length-le m k)
+  below-end h = go (decLt i (length m)) ∙ (rw (drop-of-length-le l h) at (k .left))
+    where
+      go : Dec (i < length m) → ltb i (length m) ≡ below [] (drop i m)
+      go (yes p) = rw (drop-cons m i 0 p, lt-ltb i (length m) p)
+      go (no p) = rw (drop-of-length-le m {i = i} (omega arith), le-ltb i (length m) (omega arith))
 
-  pub below-less : i < length m → getD l i 0 < getD m i 0 → below (drop i l) (drop i m) ≡ true
-  unfolding below
-  below-less k e = rw (drop-cons l i 0 h, drop-cons m i 0 k, lt-ltb (getD l i 0) (getD m i 0) e)
+-- two names have the same bytes before i
+pub record Alike (l m : List ℕ) (i : ℕ) : Type 0 where
+  pub upto : i ≤ length l
+  pub upto′ : i ≤ length m
+  pub left : same (drop i l) (drop i m) ≡ same l m
 
-  pub below-more : i < length m → getD m i 0 ≤ getD l i 0 → (getD l i 0 ≡ getD m i 0 → ⊥) → below (drop i l) (drop i m) ≡ false
-  unfolding below
-  below-more k e n = rw (drop-cons l i 0 h, drop-cons m i 0 k, le-ltb (getD l i 0) (getD m i 0) e, ne-eqb (getD l i 0) (getD m i 0) n)
+module _ {l m : List ℕ} {i : ℕ} (k : Alike l m i) where
+  module _ (h : i < length l) where
+    pub same-short : length m ≤ i → false ≡ same l m
+    unfolding same
+    same-short j = rw (drop-cons l i 0 h, drop-of-length-le m j) at (k .left)
 
-  pub below-turn : i < length m → getD l i 0 ≡ getD m i 0 → below (drop i l) (drop i m) ≡ below (drop (i + 1) l) (drop (i + 1) m)
-  unfolding below
-  below-turn k e =
-      rw (add-one i, drop-cons l i 0 h, drop-cons m i 0 k, le-ltb (getD l i 0) (getD m i 0) (omega arith), eq-eqb (getD l i 0) (getD m i 0) e)
+    module _ (j : i < length m) where
+      pub same-other : (getD l i 0 ≡ getD m i 0 → ⊥) → false ≡ same l m
+      unfolding same
+      same-other n = rw (drop-cons l i 0 h, drop-cons m i 0 j, ne-eqb (getD l i 0) (getD m i 0) n) at (k .left)
 
-pub below-end : (l m : List ℕ) (i : ℕ) → length l ≤ i → i ≤ length m → below (drop i l) (drop i m) ≡ ltb i (length m)
-unfolding below
-below-end l m i h k = rw (drop-of-length-le l h) (go (decLt i (length m)))
-  where
-    go : Dec (i < length m) → below [] (drop i m) ≡ ltb i (length m)
-    go (yes p) = rw (drop-cons m i 0 p, lt-ltb i (length m) p)
-    go (no p) = rw (drop-of-length-le m {i = i} (omega arith), le-ltb i (length m) (omega arith))
+      pub same-turn : getD l i 0 ≡ getD m i 0 → Alike l m (i + 1)
+      unfolding same
+      same-turn e = record {
+        upto = omega arith;
+        upto′ = omega arith;
+        left = rw (add-one i) (rw (drop-cons l i 0 h, drop-cons m i 0 j, eq-eqb (getD l i 0) (getD m i 0) e) at (k .left));
+      }
 
--- the same bytes
-module _ (l m : List ℕ) (i : ℕ) (h : i < length l) where
-  pub same-short : length m ≤ i → same (drop i l) (drop i m) ≡ false
+  pub same-end : length l ≤ i → eqb i (length m) ≡ same l m
   unfolding same
-  same-short k = rw (drop-cons l i 0 h, drop-of-length-le m k)
-
-  pub same-other : i < length m → (getD l i 0 ≡ getD m i 0 → ⊥) → same (drop i l) (drop i m) ≡ false
-  unfolding same
-  same-other k n = rw (drop-cons l i 0 h, drop-cons m i 0 k, ne-eqb (getD l i 0) (getD m i 0) n)
-
-  pub same-turn : i < length m → getD l i 0 ≡ getD m i 0 → same (drop i l) (drop i m) ≡ same (drop (i + 1) l) (drop (i + 1) m)
-  unfolding same
-  same-turn k e = rw (add-one i, drop-cons l i 0 h, drop-cons m i 0 k, eq-eqb (getD l i 0) (getD m i 0) e)
-
-pub same-end : (l m : List ℕ) (i : ℕ) → length l ≤ i → i ≤ length m → same (drop i l) (drop i m) ≡ eqb i (length m)
-unfolding same
-same-end l m i h k = rw (drop-of-length-le l h) (go (decLt i (length m)))
-  where
-    go : Dec (i < length m) → same [] (drop i m) ≡ eqb i (length m)
-    go (yes p) = rw (drop-cons m i 0 p, ne-eqb i (length m) (omega arith))
-    go (no p) = rw (drop-of-length-le m {i = i} (omega arith), eq-eqb i (length m) (omega arith))
+  same-end h = go (decLt i (length m)) ∙ (rw (drop-of-length-le l h) at (k .left))
+    where
+      go : Dec (i < length m) → eqb i (length m) ≡ same [] (drop i m)
+      go (yes p) = rw (drop-cons m i 0 p, ne-eqb i (length m) (omega arith))
+      go (no p) = rw (drop-of-length-le m {i = i} (omega arith), eq-eqb i (length m) (omega arith))

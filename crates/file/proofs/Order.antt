@@ -12,7 +12,7 @@ use lib.ListN.{length, getD, take, drop, length-drop}
 use lib.Seq.{drop-drop, length-take-le}
 use borrow.Author.Tests.{lt-ltb, le-ltb, eq-eqb, ltb-true, eqb-true}
 use Rattle.file.specs.declared.Place.the-variants.{At, Nowhere}
-use Rattle.file.specs.Contents.{below, bodyBytes, nameBytes, nameOf, contentOf, contents, total}
+use Rattle.file.specs.Contents.{below, bodyBytes, nameBytes, nameOf, contents, total}
 use Rattle.file.specs.Check.{brokenEntry}
 use Rattle.file.specs.Lookup.{same, seek}
 use Rattle.file.proofs.Checks.{entries-first, entry-kept}
@@ -63,7 +63,8 @@ name-next names i =
     ap (take nameBytes) (ap (λ (k : ℕ). drop k names) e ∙ sym (drop-drop (i * nameBytes) nameBytes names))
 
 -- each name stands after the one before all, and after each lower one
-above : (before names counts : List ℕ) (k : ℕ) → brokenEntry before names counts k ≡ none → (i : ℕ) → i < length counts → below before (nameOf names i) ≡ true
+above : (before names counts : List ℕ) (k : ℕ) → brokenEntry before names counts k ≡ none
+    → (i : ℕ) → i < length counts → below before (nameOf names i) ≡ true
 above before names [] k p i h = absurd (omega arith)
 above before names (n ∷ counts) k p zero h = entry-kept before (take nameBytes names) n (entries-first before names n counts k p .0) .rises
 above before names (n ∷ counts) k p (suc i) h =
@@ -78,10 +79,12 @@ pub names-rise : (before names counts : List ℕ) (k : ℕ) → brokenEntry befo
 names-rise before names [] k p i j h l = absurd (omega arith)
 names-rise before names (n ∷ counts) k p i zero h l = absurd (omega arith)
 names-rise before names (n ∷ counts) k p zero (suc j) h l =
-    rw (name-next names j) (above (take nameBytes names) (drop nameBytes names) counts (k + 1) (entries-first before names n counts k p .1) j (omega arith))
+    rw (name-next names j)
+    (above (take nameBytes names) (drop nameBytes names) counts (k + 1) (entries-first before names n counts k p .1) j (omega arith))
 names-rise before names (n ∷ counts) k p (suc i) (suc j) h l =
     rw (name-next names i, name-next names j)
-    (names-rise (take nameBytes names) (drop nameBytes names) counts (k + 1) (entries-first before names n counts k p .1) i j (omega arith) (omega arith))
+    (names-rise (take nameBytes names) (drop nameBytes names) counts (k + 1) (entries-first before names n counts k p .1) i j (omega arith)
+    (omega arith))
 
 -- so names that are the same stand at one place
 pub names-differ : (names counts : List ℕ) → brokenEntry [] names counts 0 ≡ none
@@ -154,7 +157,8 @@ module _ (rest name : List ℕ) where
       (seek-nowhere (drop nameBytes names) counts (offset + bodyBytes n) (omega (arith, length-drop nameBytes names)) (omega arith)
       (λ j k e. f (suc j) (omega arith) (name-next names j ∙ e)))
 
-  pub seek-there : (names counts : List ℕ) (offset i : ℕ) → length names ≡ nameBytes * length counts → offset + total counts < 65536 → i < length counts
+  pub seek-there : (names counts : List ℕ) (offset i : ℕ) → length names ≡ nameBytes * length counts → offset + total counts < 65536
+      → i < length counts
       → ((j : ℕ) → j < i → nameOf names j ≡ name → ⊥) → nameOf names i ≡ name
       → seek (contents names counts offset ++ rest) name (length counts) ≡ At (offset + total (take i counts)) (bodyBytes (getD counts i 0))
   unfolding total

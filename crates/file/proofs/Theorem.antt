@@ -1,12 +1,10 @@
 -- Pattern files: what is accepted is exactly what the writer would write, in one way; a lookup finds each name where it stands, and only bodies.
 -- A file's parts are read from it, and its names rise strictly. Assumes nothing.
 use Prim.Native.Nat.{ℕ, _<_}
-use mathlib.Core.Path.{_≡_, refl, sym, ap, subst, _∙_}
+use mathlib.Core.Path.{_≡_, refl, sym, ap, _∙_}
 use mathlib.Core.List.{List}
-use native.Mathlib.Omega.{arith}
 use lib.ListN.{length, getD}
 use Rattle.file.specs.declared.FileCheck.the-variants.{Sound}
-use Rattle.file.specs.declared.Place.{Place}
 use Rattle.file.specs.declared.Place.the-variants.{At, Nowhere}
 use Rattle.file.specs.Contents.{bodyBytes, bodiesAt, nameOf}
 use Rattle.file.specs.Check.{checkOf}
@@ -26,12 +24,7 @@ parts-accepted : (f names counts bodies : List ℕ) → PartsOf f names counts b
 parts-accepted f names counts bodies k = ap checkOf (k .same) ∙ written-sound names counts bodies (k .sound)
 
 pub accepted-exactly : AcceptedExactly
-accepted-exactly f w = (
-  λ p.
-      let k = accepted-parts f w p in
-      (k .names, k .counts, k .bodies, k .names-bytes, k .counts-bytes, k .bodies-bytes, k .parts),
-  λ k. parts-accepted f (k .0) (k .1) (k .2) (k .6),
-)
+accepted-exactly f w = (accepted-parts f w, λ k. parts-accepted f (k .names) (k .counts) (k .bodies) (k .parts))
 
 pub one-way : OneWay
 one-way f names counts bodies names′ counts′ bodies′ k k′ =

@@ -1,7 +1,7 @@
 -- A turn of each loop over contents, numbers of entries and bodies, and each way out. Assumes nothing.
 use Prim.Native.Nat.{ℕ, _+_, _-_, _*_, _/_, _≤_, _<_}
-use mathlib.Core.Path.{_≡_, refl, sym, ap, ap₂, _∙_}
-use mathlib.Core.Bool.{Bool, true, false, cond}
+use mathlib.Core.Path.{_≡_, refl, sym, ap, _∙_}
+use mathlib.Core.Bool.{true, false, cond}
 use mathlib.Core.List.{List, [], _∷_, _++_}
 use mathlib.Core.Option.{none, some}
 use native.Mathlib.Nat.{sub-zero}
@@ -21,7 +21,8 @@ use Rattle.file.specs.Contents.{bodyBytes, nameBytes, contentsBytes, bod
 use Rattle.file.specs.Check.{entryKept, brokenEntry, onBody, brokenBody, onEntry, countsIn, contentKept, brokenContent}
 
 -- the bytes of the bodies from number i on
-pub total-turn : (counts : List ℕ) (i : ℕ) → i < length counts → total (drop i counts) ≡ bodyBytes (getD counts i 0) + total (drop (i + 1) counts)
+pub total-turn : (counts : List ℕ) (i : ℕ) → i < length counts
+    → total (drop i counts) ≡ bodyBytes (getD counts i 0) + total (drop (i + 1) counts)
 unfolding total
 total-turn counts i h = rw (drop-cons counts i 0 h, add-one i)
 
@@ -44,9 +45,9 @@ counts-turn : (f : List ℕ) (count i at : ℕ) → i < count
 unfolding countsIn
 counts-turn f count i at h = rw (left-suc count i h, getD-drop at f 10 0, drop-drop contentsBytes at f)
 
-pub copied-more : (count : ℕ) (f old new : List ℕ) (i at : ℕ) → count ≤ length new → i < count → Copied count f old new i at
+pub copied-more : {count : ℕ} {f old new : List ℕ} {i at : ℕ} → Copied count f old new i at → count ≤ length new → i < count
     → Copied count f old (set new i (getD f (at + 10) 0)) (i + 1) (at + contentsBytes)
-copied-more count f old new i at l h k =
+copied-more {count} {f} {old} {new} {i} {at} k l h =
     let v : ℕ = getD f (at + 10) 0 in
     let rest : List ℕ = countsIn (drop (at + contentsBytes) f) (count - (i + 1)) in
     record {
@@ -54,13 +55,19 @@ copied-more count f old new i at l h k =
       place = omega (arith, k .place);
       long = length-set new i v ∙ k .long;
       filled =
-          rw (add-one i, take-suc-set new i v (omega arith), drop-set-lt count new i v h, ← add-one i, append-snoc (take i new) v (rest ++ drop count new))
+          rw (
+            add-one i,
+            take-suc-set new i v (omega arith),
+            drop-set-lt count new i v h,
+            ← add-one i,
+            append-snoc (take i new) v (rest ++ drop count new),
+          )
           (ap (λ (r : List ℕ). take i new ++ (r ++ drop count new)) (sym (counts-turn f count i at h)) ∙ k .filled);
     }
 
-pub copied-all : (count : ℕ) (f old new : List ℕ) (i at : ℕ) → count ≤ i → Copied count f old new i at → new ≡ countsIn f count ++ drop count old
+pub copied-all : {count : ℕ} {f old new : List ℕ} {i at : ℕ} → Copied count f old new i at → count ≤ i → new ≡ countsIn f count ++ drop count old
 unfolding countsIn
-copied-all count f old new i at h k =
+copied-all {count} {f} {old} {new} {i} {at} k h =
     let e : i ≡ count = omega (arith, k .upto) in
     let z : count - i ≡ 0 = omega arith in
     sym (take-append-drop count new) ∙ (rw (z, e) at (k .filled))
@@ -77,7 +84,7 @@ scanned-none body n h =
     let count : length body / 5 ≡ n = omega arith in
     record { upto = omega arith; few = omega arith; same = rw (sub-zero n, count) refl }
 
-module _ (body : List ℕ) (n e trees : ℕ) (k : Scanned body n e trees) where
+module _ {body : List ℕ} {n e trees : ℕ} (k : Scanned body n e trees) where
   pub scanned-more : e < n → (left : ℕ) → depthOf (entryAt argumentBytes body e) trees ≡ To left → Scanned body n (e + 1) left
   scanned-more h left q = record {
     upto = omega arith;
@@ -103,14 +110,20 @@ pub record Searched (counts bodies : List ℕ) (b at : ℕ) : Type 0 where
 pub searched-none : (counts bodies : List ℕ) → length bodies ≡ total counts → Searched counts bodies 0 0
 searched-none counts bodies h = record { upto = omega arith; left = omega arith; same = refl }
 
-pub searched-all : (counts bodies : List ℕ) (b at : ℕ) → length counts ≤ b → Searched counts bodies b at → Sound ≡ brokenBody counts bodies 0
+pub searched-all : {counts bodies : List ℕ} {b at : ℕ} → Searched counts bodies b at → length counts ≤ b → Sound ≡ brokenBody counts bodies 0
 unfolding brokenBody
-searched-all counts bodies b at h k = rw (drop-of-length-le counts h) at (k .same)
+searched-all {counts} k h = rw (drop-of-length-le counts h) at (k .same)
 
--- body number b
-module _ (counts bodies : List ℕ) (b at n end : ℕ) (p : n ≡ getD counts b 0) (q : end ≡ at + bodyBytes n) (h : b < length counts) (k : Searched counts bodies b at) where
+-- body number b has n entries and stands between two places
+pub record AtBody (counts bodies : List ℕ) (b at n end : ℕ) : Type 0 where
+  pub counted : n ≡ getD counts b 0
+  pub ends : end ≡ at + bodyBytes n
+  pub there : b < length counts
+  pub before : Searched counts bodies b at
+
+module _ {counts bodies : List ℕ} {b at n end : ℕ} (k : AtBody counts bodies b at n end) where
   pub body-ends : end ≤ length bodies
-  body-ends = omega (arith, k .left, total-turn counts b h)
+  body-ends = omega (arith, k .before .left, total-turn counts b (k .there))
 
   pub body-long : length (take (end - at) (drop at bodies)) ≡ bodyBytes n
   body-long = length-take-le (end - at) (drop at bodies) (simp length-drop (omega (arith, body-ends))) ∙ omega arith
@@ -121,16 +134,17 @@ module _ (counts bodies : List ℕ) (b at n end : ℕ) (p : n ≡ getD counts b 
   turned =
       let long : bodyBytes (getD counts b 0) ≡ end - at = omega arith in
       let next : at + (end - at) ≡ end = omega arith in
-      rw (drop-cons counts b 0 h, add-one b, long, drop-drop (end - at) at bodies, next)
+      rw (drop-cons counts b 0 (k .there), add-one b, long, drop-drop (end - at) at bodies, next)
 
-  pub searched-here : (e : ℕ) → scan (entries argumentBytes (take (end - at) (drop at bodies))) 0 0 ≡ some e → Refused (Body b e) ≡ brokenBody counts bodies 0
-  searched-here e o = rw (turned, o) at (k .same)
+  pub searched-here : {e : ℕ} → scan (entries argumentBytes (take (end - at) (drop at bodies))) 0 0 ≡ some e
+      → Refused (Body b e) ≡ brokenBody counts bodies 0
+  searched-here o = rw (turned, o) at (k .before .same)
 
   pub searched-more : scan (entries argumentBytes (take (end - at) (drop at bodies))) 0 0 ≡ none → Searched counts bodies (b + 1) end
   searched-more o = record {
     upto = omega arith;
-    left = omega (arith, k .left, total-turn counts b h);
-    same = rw (turned, o) at (k .same);
+    left = omega (arith, k .before .left, total-turn counts b (k .there));
+    same = rw (turned, o) at (k .before .same);
   }
 
 -- what is left of a list, as code lends it
@@ -148,12 +162,12 @@ pub record Kept (names counts : List ℕ) (i from at : ℕ) : Type 0 where
 pub kept-none : (names counts : List ℕ) → Kept names counts 0 0 0
 kept-none names counts = record { upto = omega arith; order = omega arith; place = omega arith; same = refl }
 
-pub kept-all : (names counts : List ℕ) (i from at : ℕ) → length counts ≤ i → Kept names counts i from at
+pub kept-all : {names counts : List ℕ} {i from at : ℕ} → Kept names counts i from at → length counts ≤ i
     → Sound ≡ onEntry (brokenEntry [] names counts 0) Sound
 unfolding brokenEntry
-kept-all names counts i from at h k = rw (drop-of-length-le counts h) at (k .same)
+kept-all {counts = counts} k h = rw (drop-of-length-le counts h) at (k .same)
 
-module _ (names counts : List ℕ) (i from at : ℕ) (h : i < length counts) (k : Kept names counts i from at) where
+module _ {names counts : List ℕ} {i from at : ℕ} (k : Kept names counts i from at) (h : i < length counts) where
   name-long : at + nameBytes - at ≡ nameBytes
   name-long = omega arith
 
@@ -196,15 +210,16 @@ contents-none count f h = record {
   same = rw (sub-zero count) refl;
 }
 
-pub contents-all : (count : ℕ) (f : List ℕ) (i from to at offset : ℕ) → count ≤ i → KeptContents count f i from to at offset
+pub contents-all : {count : ℕ} {f : List ℕ} {i from to at offset : ℕ} → KeptContents count f i from to at offset → count ≤ i
     → Sound ≡ onEntry (brokenContent [] f count (bodiesAt count) 0) Sound
 unfolding brokenContent
-contents-all count f i from to at offset h k = rw (left-zero count i h) at (k .same)
+contents-all {count} {i = i} k h = rw (left-zero count i h) at (k .same)
 
-module _ (count : ℕ) (f : List ℕ) (i from to at offset : ℕ) (h : i < count) (k : KeptContents count f i from to at offset) where
+module _ {count : ℕ} {f : List ℕ} {i from to at offset : ℕ} (k : KeptContents count f i from to at offset) (h : i < count) where
   content-turn : brokenContent (take (to - from) (drop from f)) (drop at f) (count - i) offset i
       ≡ cond (contentKept (take (to - from) (drop from f)) (take (length f - at) (drop at f)) offset)
-      (brokenContent (take (at + nameBytes - at) (drop at f)) (drop (at + contentsBytes) f) (count - (i + 1)) (offset + bodyBytes (getD f (at + 10) 0)) (i + 1))
+      (brokenContent (take (at + nameBytes - at) (drop at f)) (drop (at + contentsBytes) f) (count - (i + 1))
+      (offset + bodyBytes (getD f (at + 10) 0)) (i + 1))
       (some i)
   unfolding brokenContent
   content-turn =

@@ -1,8 +1,7 @@
 -- A turn of each loop of the writer, and the file that its parts make. Assumes nothing.
-use Prim.Native.Nat.{ℕ, suc, _+_, _-_, _*_, _/_, _%_, _≤_, _<_}
+use Prim.Native.Nat.{ℕ, suc, _+_, _-_, _*_, _≤_, _<_}
 use mathlib.Core.Path.{_≡_, refl, sym, ap, ap₂, _∙_}
 use mathlib.Core.List.{List, [], _∷_, _++_, append-nil, append-assoc}
-use native.Mathlib.Nat.{sub-zero}
 use native.Mathlib.Numerals.{add-one}
 use native.Mathlib.Omega.{arith}
 use lib.ListN.{length, getD, take, drop, set, length-append, length-set, length-drop, drop-of-length-le}
@@ -30,8 +29,8 @@ pub record CopiedTo (bytes part : List ℕ) (i : ℕ) : Type 0 where
 pub copy-none : (bytes part : List ℕ) → length part ≡ length bytes → CopiedTo bytes part 0
 copy-none bytes part h = record { upto = omega arith; long = h; made = refl }
 
-pub copy-more : (bytes part : List ℕ) (i : ℕ) → i < length bytes → CopiedTo bytes part i → CopiedTo bytes (set part i (getD bytes i 0)) (i + 1)
-copy-more bytes part i h k =
+pub copy-more : {bytes part : List ℕ} {i : ℕ} → CopiedTo bytes part i → i < length bytes → CopiedTo bytes (set part i (getD bytes i 0)) (i + 1)
+copy-more {bytes} {part} {i} k h =
     let v : ℕ = getD bytes i 0 in
     record {
       upto = omega arith;
@@ -41,8 +40,8 @@ copy-more bytes part i h k =
           (k .made);
     }
 
-pub copy-all : (bytes part : List ℕ) (i : ℕ) → length bytes ≤ i → CopiedTo bytes part i → part ≡ bytes
-copy-all bytes part i h k =
+pub copy-all : {bytes part : List ℕ} {i : ℕ} → CopiedTo bytes part i → length bytes ≤ i → part ≡ bytes
+copy-all {bytes} {part} {i} k h =
     sym (append-nil part)
     ∙ ap₂ (λ (x y : List ℕ). x ++ y) (sym (take-all i part (omega (arith, k .long)))) (sym (drop-of-length-le bytes h))
     ∙ k .made
@@ -74,14 +73,14 @@ pub filled-none : (names counts part : List ℕ) → Few counts → length part 
 filled-none names counts part h l = record { upto = omega arith; read = omega arith; place = omega arith; near = omega arith; long = l; made = refl }
 
 -- one entry more
-module _ (names counts part : List ℕ) (i from at offset : ℕ) (full : length names ≡ nameBytes * length counts) (h : i < length counts)
-    (k : Filled names counts part i from at offset) where
+module _ {names counts part : List ℕ} {i from at offset : ℕ} (k : Filled names counts part i from at offset) (h : i < length counts)
+    (full : length names ≡ nameBytes * length counts) where
   pub name-long : length (take (from + nameBytes - from) (drop from names)) ≡ nameBytes
   name-long =
       length-take-le (from + nameBytes - from) (drop from names) (omega (arith, k .read, length-drop from names)) ∙ omega arith
 
   -- e is what its bytes are then
-  module _ (e : List ℕ) (q : e ≡ contentOf (take (from + nameBytes - from) (drop from names)) offset (getD counts i 0)) where
+  module _ {e : List ℕ} (q : e ≡ contentOf (take (from + nameBytes - from) (drop from names)) offset (getD counts i 0)) where
     entry-long : length e ≡ contentsBytes
     entry-long = ap length q ∙ length-content (take (from + nameBytes - from) (drop from names)) offset (getD counts i 0) name-long
 
@@ -99,22 +98,24 @@ module _ (names counts part : List ℕ) (i from at offset : ℕ) (full : length 
         let long : from + nameBytes - from ≡ nameBytes = omega arith in
         rw (drop-cons counts i 0 h, q, long, add-one i, drop-drop nameBytes from names)
 
-    pub filled-more : (n : ℕ) → n ≡ getD counts i 0 → n < 256
+    pub filled-more : {n : ℕ} → n ≡ getD counts i 0 → n < 256
         → Filled names counts (putMid at (at + contentsBytes - at) part e) (i + 1) (from + nameBytes) (at + contentsBytes) (offset + bodyBytes n)
-    filled-more n p l = record {
+    filled-more p l = record {
       upto = omega arith;
       read = omega (arith, k .read);
       place = omega (arith, k .place);
       near = omega (arith, k .near);
       long = same-len-mid at (at + contentsBytes - at) part e
           (entry-long ∙ sym (mid-len at (at + contentsBytes) part (omega (arith, k .long, k .place)) ∙ omega arith)) ∙ k .long;
-      made = rw (front, p, append-assoc (take at part) e (contents (drop (from + nameBytes) names) (drop (i + 1) counts) (offset + bodyBytes (getD counts i 0))), ← contents-turn) (k .made);
+      made =
+          let rest : List ℕ = contents (drop (from + nameBytes) names) (drop (i + 1) counts) (offset + bodyBytes (getD counts i 0)) in
+          rw (front, p, append-assoc (take at part) e rest, ← contents-turn) (k .made);
     }
 
-pub filled-all : (names counts part : List ℕ) (i from at offset : ℕ) → length counts ≤ i → Filled names counts part i from at offset
+pub filled-all : {names counts part : List ℕ} {i from at offset : ℕ} → Filled names counts part i from at offset → length counts ≤ i
     → part ≡ contents names counts (bodiesAt (length counts))
 unfolding contents
-filled-all names counts part i from at offset h k =
+filled-all {counts = counts} {part = part} {i = i} {at = at} k h =
     sym (append-nil part)
     ∙ ap (λ (x : List ℕ). x ++ []) (sym (take-all at part (omega (arith, k .long, k .place))))
     ∙ (rw (drop-of-length-le counts {i = i} h) at (k .made))
@@ -166,13 +167,14 @@ module _ (names counts bodies old : List ℕ) where
       later = refl;
     }
 
-    pub wrote-file : (c b : List ℕ) → c ≡ contents names counts (bodiesAt (length counts)) → b ≡ bodies → bodiesAt (length counts) + length bodies ≤ length old
+    pub wrote-file : {c b : List ℕ} → c ≡ contents names counts (bodiesAt (length counts)) → b ≡ bodies
+        → bodiesAt (length counts) + length bodies ≤ length old
         → Wrote names counts bodies old
         (putMid (bodiesAt (length counts)) (bodiesAt (length counts) + length bodies - bodiesAt (length counts))
         (putMid 1 (bodiesAt (length counts) - 1) (set old 0 (length counts)) c) b)
         (Written (bodiesAt (length counts) + length bodies))
     unfolding writingOf
-    wrote-file c b q r h = record {
+    wrote-file {c} {b} q r h = record {
       answer = rw (p, length-file, le-leb (bodiesAt (length counts) + length bodies) (length old) h);
       later =
           file-written (length counts) old c b (bodiesAt (length counts)) (bodiesAt (length counts) + length bodies)

@@ -1,10 +1,10 @@
 -- The rules on names, numbers of entries and bodies, in the order of refusals 4, 5, 6, 7; of parts given to the writer, and of a file.
 -- Assumes nothing: these are definitions.
 use Prim.Native.Nat.{ℕ, zero, suc, _+_, _*_}
-use mathlib.Core.Bool.{Bool, true, false, cond}
+use mathlib.Core.Bool.{Bool, false, cond}
 use mathlib.Core.List.{List, [], _∷_, _++_}
 use mathlib.Core.Option.{Option, none, some}
-use lib.Dec.{ltb, leb, eqb}
+use lib.Dec.{leb, eqb}
 use lib.ListN.{length, getD, take, drop}
 use Rattle.rules.specs.Limits.{argumentBytes, mostEntries, mostPatterns}
 use Rattle.refusal.specs.declared.Refusal.the-variants.{Count, Entry, Size, Body}

@@ -3,7 +3,7 @@ use Prim.Native.Nat.{ℕ, _+_, _≤_, _<_}
 use mathlib.Core.Path.{_≡_}
 use mathlib.Core.Logic.{_↔_}
 use mathlib.Core.Bool.{true}
-use mathlib.Core.List.{List}
+use mathlib.Core.List.{List, [], _∷_}
 use lib.ListN.{length, getD, take}
 use Rattle.rules.specs.Limits.{argumentBytes}
 use Rattle.refusal.specs.declared.Refusal.the-variants.{Absent}
@@ -23,11 +23,19 @@ pub record PartsOf (f names counts bodies : List ℕ) : Type 0 where
   pub sound : partsCheck names counts bodies ≡ Sound
   pub same : f ≡ fileOf names counts bodies
 
+-- a file has parts that the writer would write it from
+pub record Parts (f : List ℕ) : Type 0 where
+  pub names : List ℕ
+  pub counts : List ℕ
+  pub bodies : List ℕ
+  pub names-bytes : Bytes names
+  pub counts-bytes : Bytes counts
+  pub bodies-bytes : Bytes bodies
+  pub parts : PartsOf f names counts bodies
+
 -- what is accepted is exactly what the writer would write, byte for byte
 abbrev pub AcceptedExactly : Type 0
-AcceptedExactly =
-    (f : List ℕ) → Bytes f
-    → checkOf f ≡ Sound ↔ ((names : List ℕ) × (counts : List ℕ) × (bodies : List ℕ) × Bytes names × Bytes counts × Bytes bodies × PartsOf f names counts bodies)
+AcceptedExactly = (f : List ℕ) → Bytes f → checkOf f ≡ Sound ↔ Parts f
 
 -- and from no other names, numbers and bodies
 abbrev pub OneWay : Type 0
@@ -90,3 +98,7 @@ abbrev pub AbsentFromBoth : Type 0
 AbsentFromBoth =
     (site fleet name names counts bodies names′ counts′ bodies′ : List ℕ) → PartsOf site names counts bodies → PartsOf fleet names′ counts′ bodies′
     → Lacks names counts name → Lacks names′ counts′ name → findingOf site fleet name ≡ Refused Absent
+
+-- the smallest file, of the name W and the pattern `A`, is accepted
+abbrev pub SmallestFile : Type 0
+SmallestFile = checkOf (1 ∷ 87 ∷ 32 ∷ 32 ∷ 32 ∷ 32 ∷ 32 ∷ 32 ∷ 32 ∷ 13 ∷ 0 ∷ 1 ∷ 0 ∷ 0 ∷ 0 ∷ 0 ∷ 0 ∷ 0 ∷ []) ≡ Sound

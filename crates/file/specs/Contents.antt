@@ -1,10 +1,10 @@
 -- A pattern file: the count, the contents, then the bodies (document 01, "Pattern file"). Assumes nothing: these are definitions.
-use Prim.Native.Nat.{ℕ, zero, suc, _+_, _*_}
-use mathlib.Core.Bool.{Bool, true, false, cond, _||_}
+use Prim.Native.Nat.{ℕ, _+_, _*_}
+use mathlib.Core.Bool.{Bool, true, false, cond}
 use mathlib.Core.List.{List, [], _∷_, _++_}
 use lib.Dec.{ltb, leb, eqb}
-use lib.ListN.{length, getD, take, drop}
-use Rattle.rules.specs.Limits.{argumentBytes, mostEntries}
+use lib.ListN.{length, take, drop}
+use Rattle.rules.specs.Limits.{argumentBytes}
 use Rattle.body.specs.Bytes.{bytesOf}
 
 -- `A`..`Z` or `0`..`9`

@@ -1,11 +1,10 @@
 -- Lookup of a name in a site file and a fleet file, site first (refusals 4, 5, 6, 7 of a file, site examined first, then 15).
 -- Assumes nothing: these are definitions.
-use Prim.Native.Nat.{ℕ, zero, suc, _+_, _*_}
+use Prim.Native.Nat.{ℕ, zero, suc}
 use mathlib.Core.Bool.{Bool, true, false, cond}
 use mathlib.Core.List.{List, [], _∷_}
 use lib.Dec.{eqb}
 use lib.ListN.{getD, take, drop}
-use Rattle.refusal.specs.declared.Refusal.{Refusal}
 use Rattle.refusal.specs.declared.Refusal.the-variants.{Absent}
 use Rattle.body.specs.Bytes.{valueAt}
 use Rattle.file.specs.declared.FileCheck.{FileCheck}

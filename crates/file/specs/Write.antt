@@ -17,11 +17,13 @@ abbrev pub ifSound : FileCheck → Writing → Writing
 ifSound Checks.Sound answer = answer
 ifSound (Checks.Refused r) answer = Refused r
 
+-- the bytes written, or Room with the length needed
+abbrev pub inRoom : ℕ → ℕ → Writing
+inRoom needed room = cond (leb needed room) (Written needed) (Refused (Room needed))
+
 -- the answer: the parts' refusal, then Room with the length needed, else the bytes written
 unfoldable pub writingOf : List ℕ → List ℕ → List ℕ → ℕ → Writing
-writingOf names counts bodies room =
-    ifSound (partsCheck names counts bodies)
-    (cond (leb (length (fileOf names counts bodies)) room) (Written (length (fileOf names counts bodies))) (Refused (Room (length (fileOf names counts bodies)))))
+writingOf names counts bodies room = ifSound (partsCheck names counts bodies) (inRoom (length (fileOf names counts bodies)) room)
 
 -- the slice afterwards: the file and what lies beyond it, or all as it was
 abbrev pub after : Writing → List ℕ → List ℕ → List ℕ

@@ -1,5 +1,5 @@
 -- `file::check_file` meets its contract: the count, then what follows it. Assumes nothing.
-use mathlib.Core.Path.{sym, ap₂, _∙_}
+use mathlib.Core.Path.{ap₂, _∙_}
 use native.Mathlib.Omega.{arith}
 use Rattle.file.specs.Check.{restCheck}
 use Rattle.file.proofs.Turns.{rest-part}

@@ -3,7 +3,7 @@
 use Prim.Native.Nat.{_-_}
 use mathlib.Core.Path.{sym, _∙_}
 use native.Mathlib.Omega.{arith}
-use lib.ListN.{length, length-drop}
+use lib.ListN.{length-drop}
 use Rattle.file.proofs.Turns.{KeptContents, rest-part, contents-none, contents-all, contents-here, contents-more}
 use borrow.Author.Tests.{not-true, not-false}
 use borrow.Author.Needs.{needs}
@@ -51,9 +51,8 @@ content-kept-requires c κs =
 
 returns : tie.Need-returns Inv-loop μ-loop
 returns c =
-    let k = c .before .before .before .before .before in
-    let a = k .before .before .args in
-    contents-here _ (a .rest .now) _ _ _ _ _ (omega arith) (k .loop .inv) (sym (c .before .content-kept .ensures) ∙ not-true _ (c .if1 .taken))
+    contents-here (c .before .before .before .before .before .loop .inv) (omega arith)
+    (sym (c .before .content-kept .ensures) ∙ not-true _ (c .if1 .taken))
 
 add-wide : tie.Need-add-wide Inv-loop μ-loop
 add-wide c = search needs
@@ -85,13 +84,11 @@ loop-less c = search needs
 loop-again : tie.Need-loop-again Inv-loop μ-loop
 loop-again c =
     let e = c .before .before in
-    let k = e .before .before .before .before .before in
-    let a = k .before .before .args in
-    contents-more _ (a .rest .now) _ _ _ _ _ (omega arith) (k .loop .inv) (sym (e .before .content-kept .ensures) ∙ not-false _ (e .if1 .left))
-    (c .wide .result) (c .wide .ensures .0) (c .wide .ensures .1)
+    contents-more (e .before .before .before .before .before .loop .inv) (omega arith)
+    (sym (e .before .content-kept .ensures) ∙ not-false _ (e .if1 .left)) (c .wide .result) (c .wide .ensures .0) (c .wide .ensures .1)
 
 returns-2 : tie.Need-returns-2 Inv-loop μ-loop
-returns-2 c = contents-all _ _ _ _ _ _ _ (c .loop-test .left) (c .before .loop .inv)
+returns-2 c = contents-all (c .before .loop .inv) (c .loop-test .left)
 
 pub check-contents-spec : {M : Type 1} → statement M
 check-contents-spec =

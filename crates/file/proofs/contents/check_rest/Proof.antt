@@ -57,7 +57,8 @@ check-bodies-requires c κs =
     let q = c .before .before .before .before in
     let n = q .before .before in
     let m = n .before .before in
-    rw (counts-lent _ _ _ _ (q .copy-counts .ensures)) (rest-small _ _ (m .before .before .if2 .left) (sym (m .check-contents .ensures) ∙ n .enum-told .given .1))
+    rw (counts-lent _ _ _ _ (q .copy-counts .ensures))
+    (rest-small _ _ (m .before .before .if2 .left) (sym (m .check-contents .ensures) ∙ n .enum-told .given .1))
 
 returns-4 : tie.Need-returns-4
 returns-4 c =

@@ -36,15 +36,13 @@ loop-less : tie.Need-loop-less Inv-loop μ-loop
 loop-less c = search needs
 
 loop-again : tie.Need-loop-again Inv-loop μ-loop
-loop-again c =
-    let k = c .before .before in
-    copied-more _ _ _ _ _ _ (omega arith) (omega arith) (k .loop .inv)
+loop-again c = copied-more (c .before .before .loop .inv) (omega arith) (omega arith)
 
 same-length : tie.Need-same-length Inv-loop μ-loop
 same-length c = c .before .loop .inv .long
 
 returns : tie.Need-returns Inv-loop μ-loop
-returns c = copied-all _ _ _ _ _ _ (c .loop-test .left) (c .before .loop .inv)
+returns c = copied-all (c .before .loop .inv) (c .loop-test .left)
 
 pub copy-counts-spec : {M : Type 1} → statement M
 copy-counts-spec =

@@ -75,9 +75,8 @@ returns c =
     let o = c .before .before in
     let t = o .before .before in
     let k = t .before .before .before .before in
-    let a = k .before .before .before .before .before .args in
-    sought-here (a .file .now) (a .name .now) _ _ _ (omega (arith, k .loop .inv)) (k .loop .inv) _ _
-    (sym (t .before .is-same .ensures) ∙ t .if1 .taken) (o .offset-of .ensures) (c .wide2 .ensures .0)
+    sought-here (k .loop .inv) (omega (arith, k .loop .inv)) (sym (t .before .is-same .ensures) ∙ t .if1 .taken) (o .offset-of .ensures)
+    (c .wide2 .ensures .0)
 
 add-at : tie.Need-add-at Inv-loop μ-loop
 add-at c = search needs
@@ -90,12 +89,10 @@ loop-less c = search needs
 
 loop-again : tie.Need-loop-again Inv-loop μ-loop
 loop-again c =
-    let k = c .before .before .before .before in
-    let a = k .before .before .before .before .before .args in
-    sought-more (a .file .now) (a .name .now) _ _ _ (omega arith) (k .loop .inv) (sym (c .before .is-same .ensures) ∙ c .if1 .left)
+    sought-more (c .before .before .before .before .loop .inv) (omega arith) (sym (c .before .is-same .ensures) ∙ c .if1 .left)
 
 returns-2 : tie.Need-returns-2 Inv-loop μ-loop
-returns-2 c = sought-all _ _ _ _ _ (c .loop-test .left) (c .before .loop .inv)
+returns-2 c = sought-all (c .before .loop .inv) (c .loop-test .left)
 
 pub find-spec : {M : Type 1} → statement M
 find-spec =

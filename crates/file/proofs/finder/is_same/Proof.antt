@@ -1,27 +1,25 @@
 -- `file::finder::is_same` meets its contract: the bytes left decide, as far as both names are the same. The measure is the number of bytes left.
 -- Assumes nothing.
-use Prim.Native.Nat.{_-_, _≤_}
-use mathlib.Core.Path.{_≡_, refl, sym, _∙_}
+use Prim.Native.Nat.{_-_}
+use mathlib.Core.Path.{refl}
 use native.Mathlib.Omega.{arith}
-use lib.ListN.{length, drop}
-use Rattle.file.specs.Lookup.{same}
-use Rattle.file.proofs.Names.{same-short, same-other, same-turn, same-end}
+use lib.ListN.{length}
+use Rattle.file.proofs.Names.{Alike, same-short, same-other, same-turn, same-end}
 use borrow.Author.Needs.{needs}
 use Rattle.file.proofs.finder.is_same.Statement.{statement}
 use Rattle.file.proofs.finder.is_same.Tie as tie
 
 abbrev Inv-loop : tie.InvT-loop
-Inv-loop a b i₀ i =
-    (i ≤ length a) × (i ≤ length b) × (same (drop i a) (drop i b) ≡ same a b)
+Inv-loop a b i₀ i = Alike a b i
 
 abbrev μ-loop : tie.MeasureT-loop
 μ-loop a b i₀ i = length a - i
 
 loop-holds : tie.Need-loop-holds Inv-loop μ-loop
-loop-holds c = (omega arith, omega arith, refl)
+loop-holds c = record { upto = omega arith; upto′ = omega arith; left = refl }
 
 returns : tie.Need-returns Inv-loop μ-loop
-returns c = sym (same-short _ _ _ (omega arith) (c .if1 .taken)) ∙ c .before .before .loop .inv .2
+returns c = same-short (c .before .before .loop .inv) (omega arith) (c .if1 .taken)
 
 shared-slice-read-if2 : tie.Need-shared-slice-read-if2 Inv-loop μ-loop
 shared-slice-read-if2 c = search needs
@@ -30,9 +28,7 @@ shared-slice-read-if2-2 : tie.Need-shared-slice-read-if2-2 Inv-loop μ-loop
 shared-slice-read-if2-2 c = search needs
 
 returns-2 : tie.Need-returns-2 Inv-loop μ-loop
-returns-2 c =
-    let k = c .before .before .before .before .before in
-    sym (same-other (k .before .args .a .now) (k .before .args .b .now) (k .loop .i) (omega arith) (omega arith) (c .if2 .taken)) ∙ k .loop .inv .2
+returns-2 c = same-other (c .before .before .before .before .before .loop .inv) (omega arith) (omega arith) (c .if2 .taken)
 
 add-i : tie.Need-add-i Inv-loop μ-loop
 add-i c = search needs
@@ -41,17 +37,10 @@ loop-less : tie.Need-loop-less Inv-loop μ-loop
 loop-less c = search needs
 
 loop-again : tie.Need-loop-again Inv-loop μ-loop
-loop-again c =
-    let k = c .before .before .before .before .before in (
-      omega arith,
-      omega arith,
-      sym (same-turn (k .before .args .a .now) (k .before .args .b .now) (k .loop .i) (omega arith) (omega arith) (c .if2 .left)) ∙ k .loop .inv .2,
-    )
+loop-again c = same-turn (c .before .before .before .before .before .loop .inv) (omega arith) (omega arith) (c .if2 .left)
 
 returns-3 : tie.Need-returns-3 Inv-loop μ-loop
-returns-3 c =
-    let k = c .before in
-    sym (same-end _ _ _ (c .loop-test .left) (k .loop .inv .1)) ∙ k .loop .inv .2
+returns-3 c = same-end (c .before .loop .inv) (c .loop-test .left)
 
 pub is-same-spec : {M : Type 1} → statement M
 is-same-spec =

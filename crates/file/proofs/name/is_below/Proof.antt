@@ -1,27 +1,25 @@
 -- `file::name::is_below` meets its contract: the bytes left decide, as far as both names are the same. The measure is the number of bytes left.
 -- Assumes nothing.
-use Prim.Native.Nat.{_-_, _≤_}
-use mathlib.Core.Path.{_≡_, refl, sym, _∙_}
+use Prim.Native.Nat.{_-_}
+use mathlib.Core.Path.{refl}
 use native.Mathlib.Omega.{arith}
-use lib.ListN.{length, drop}
-use Rattle.file.specs.Contents.{below}
-use Rattle.file.proofs.Names.{below-short, below-less, below-more, below-turn, below-end}
+use lib.ListN.{length}
+use Rattle.file.proofs.Names.{Ordered, below-short, below-less, below-more, below-turn, below-end}
 use borrow.Author.Needs.{needs}
 use Rattle.file.proofs.name.is_below.Statement.{statement}
 use Rattle.file.proofs.name.is_below.Tie as tie
 
 abbrev Inv-loop : tie.InvT-loop
-Inv-loop before name i₀ i =
-    (i ≤ length before) × (i ≤ length name) × (below (drop i before) (drop i name) ≡ below before name)
+Inv-loop before name i₀ i = Ordered before name i
 
 abbrev μ-loop : tie.MeasureT-loop
 μ-loop before name i₀ i = length before - i
 
 loop-holds : tie.Need-loop-holds Inv-loop μ-loop
-loop-holds c = (omega arith, omega arith, refl)
+loop-holds c = record { upto = omega arith; upto′ = omega arith; left = refl }
 
 returns : tie.Need-returns Inv-loop μ-loop
-returns c = sym (below-short _ _ _ (omega arith) (c .if1 .taken)) ∙ c .before .before .loop .inv .2
+returns c = below-short (c .before .before .loop .inv) (omega arith) (c .if1 .taken)
 
 shared-slice-read-if2 : tie.Need-shared-slice-read-if2 Inv-loop μ-loop
 shared-slice-read-if2 c = search needs
@@ -30,9 +28,7 @@ shared-slice-read-if2-2 : tie.Need-shared-slice-read-if2-2 Inv-loop μ-loop
 shared-slice-read-if2-2 c = search needs
 
 returns-2 : tie.Need-returns-2 Inv-loop μ-loop
-returns-2 c =
-    let k = c .before .before .before .before .before in
-    sym (below-less (k .before .args .before .now) (k .before .args .name .now) (k .loop .i) (omega arith) (omega arith) (c .if2 .taken)) ∙ k .loop .inv .2
+returns-2 c = below-less (c .before .before .before .before .before .loop .inv) (omega arith) (omega arith) (c .if2 .taken)
 
 shared-slice-read-if3 : tie.Need-shared-slice-read-if3 Inv-loop μ-loop
 shared-slice-read-if3 c = search needs
@@ -42,8 +38,8 @@ shared-slice-read-if3-2 c = search needs
 
 returns-3 : tie.Need-returns-3 Inv-loop μ-loop
 returns-3 c =
-    let k = c .before .before .before .before .before .before .before .before in
-    sym (below-more (k .before .args .before .now) (k .before .args .name .now) (k .loop .i) (omega arith) (omega arith) (omega arith) (c .if3 .taken)) ∙ k .loop .inv .2
+    below-more (c .before .before .before .before .before .before .before .before .loop .inv) (omega arith) (omega arith)
+    (c .before .before .before .if2 .left) (c .if3 .taken)
 
 add-i : tie.Need-add-i Inv-loop μ-loop
 add-i c = search needs
@@ -53,13 +49,10 @@ loop-less c = search needs
 
 loop-again : tie.Need-loop-again Inv-loop μ-loop
 loop-again c =
-    let k = c .before .before .before .before .before .before .before .before in
-    (omega arith, omega arith, sym (below-turn (k .before .args .before .now) (k .before .args .name .now) (k .loop .i) (omega arith) (omega arith) (c .if3 .left)) ∙ k .loop .inv .2)
+    below-turn (c .before .before .before .before .before .before .before .before .loop .inv) (omega arith) (omega arith) (c .if3 .left)
 
 returns-4 : tie.Need-returns-4 Inv-loop μ-loop
-returns-4 c =
-    let k = c .before in
-    sym (below-end _ _ _ (c .loop-test .left) (k .loop .inv .1)) ∙ k .loop .inv .2
+returns-4 c = below-end (c .before .loop .inv) (c .loop-test .left)
 
 pub is-below-spec : {M : Type 1} → statement M
 is-below-spec =

@@ -1,7 +1,6 @@
 -- `file::name::is_name_byte` meets its contract: it makes the tests of `nameByte` in their order. Assumes nothing.
 use Rattle.file.specs.Contents.{nameByte}
 use borrow.Author.Tests.{le-leb, lt-leb}
-use borrow.Author.Needs.{needs}
 use Rattle.file.proofs.name.is_name_byte.Statement.{statement}
 use Rattle.file.proofs.name.is_name_byte.Tie as tie
 

@@ -5,7 +5,7 @@ use mathlib.Core.Path.{refl}
 use native.Mathlib.Omega.{arith}
 use lib.ListN.{length, take, drop}
 use Rattle.file.proofs.Turns.{Scanned, scanned-none, scanned-more, scanned-lacks, scanned-one, scanned-several}
-use Rattle.file.proofs.Turns.{Searched, searched-none, searched-all, body-ends, body-long, searched-here, searched-more}
+use Rattle.file.proofs.Turns.{Searched, AtBody, searched-none, searched-all, body-ends, body-long, searched-here, searched-more}
 use borrow.Author.Needs.{needs}
 use Rattle.file.proofs.parts.broken_body.Statement.{statement}
 use Rattle.file.proofs.parts.broken_body.Tie as tie
@@ -22,6 +22,19 @@ Inv-bodies counts bodies b₀ at₀ b at = Searched counts bodies b at
 abbrev μ-bodies : tie.MeasureT-bodies
 μ-bodies counts bodies b₀ at₀ b at = length counts - b
 
+-- the body that is scanned, wherever its number of entries is known
+at-body : (w : tie.After-wide Inv-loop μ-loop Inv-bodies μ-bodies)
+    → AtBody (w .before .before .before .before .before .before .args .counts .now)
+    (w .before .before .before .before .before .before .args .bodies .now)
+    (w .before .before .before .bodies .b) (w .before .before .before .bodies .at) (w .wide .result)
+    (w .before .before .before .bodies .at + w .wide .result * 5)
+at-body w = record {
+  counted = w .wide .ensures .0;
+  ends = refl;
+  there = w .before .before .if1 .left;
+  before = w .before .before .before .bodies .inv;
+}
+
 bodies-holds : tie.Need-bodies-holds Inv-loop μ-loop Inv-bodies μ-bodies
 bodies-holds c = searched-none _ _ (c .before .before .pre .full)
 
@@ -35,26 +48,10 @@ mul-end : tie.Need-mul-end Inv-loop μ-loop Inv-bodies μ-bodies
 mul-end c = search needs
 
 add-end : tie.Need-add-end Inv-loop μ-loop Inv-bodies μ-bodies
-add-end c =
-    let w = c in
-    let o = w .before .before .before in
-    let counts = o .before .before .before .args .counts .now in
-    let bodies = o .before .before .before .args .bodies .now in
-    let b = o .bodies .b in
-    let at = o .bodies .at in
-    let n = w .wide .result in
-    omega (arith, body-ends counts bodies b at n (at + n * 5) (w .wide .ensures .0) refl (omega arith) (o .bodies .inv))
+add-end c = omega (arith, body-ends (at-body c))
 
 loop-holds : tie.Need-loop-holds Inv-loop μ-loop Inv-bodies μ-bodies
-loop-holds c =
-    let w = c in
-    let o = w .before .before .before in
-    let counts = o .before .before .before .args .counts .now in
-    let bodies = o .before .before .before .args .bodies .now in
-    let b = o .bodies .b in
-    let at = o .bodies .at in
-    let n = w .wide .result in
-    scanned-none _ n (body-long counts bodies b at n (at + n * 5) (w .wide .ensures .0) refl (omega arith) (o .bodies .inv))
+loop-holds c = scanned-none _ _ (body-long (at-body c))
 
 sub-entry-at : tie.Need-sub-entry-at Inv-loop μ-loop Inv-bodies μ-bodies
 sub-entry-at c = search needs
@@ -63,40 +60,16 @@ part-entry-at-start : tie.Need-part-entry-at-start Inv-loop μ-loop Inv-bodies �
 part-entry-at-start c = search needs
 
 part-entry-at-end : tie.Need-part-entry-at-end Inv-loop μ-loop Inv-bodies μ-bodies
-part-entry-at-end c =
-    let k = c .before in
-    let w = k .before in
-    let o = w .before .before .before in
-    let counts = o .before .before .before .args .counts .now in
-    let bodies = o .before .before .before .args .bodies .now in
-    let b = o .bodies .b in
-    let at = o .bodies .at in
-    let n = w .wide .result in
-    body-ends counts bodies b at n (at + n * 5) (w .wide .ensures .0) refl (omega arith) (o .bodies .inv)
+part-entry-at-end c = body-ends (at-body (c .before .before))
 
 entry-at-requires : tie.Need-entry-at-requires Inv-loop μ-loop Inv-bodies μ-bodies
-entry-at-requires c κs =
-    let k = c .before .before in
-    let w = k .before in
-    let o = w .before .before .before in
-    let counts = o .before .before .before .args .counts .now in
-    let bodies = o .before .before .before .args .bodies .now in
-    let b = o .bodies .b in
-    let at = o .bodies .at in
-    let n = w .wide .result in
-    omega (arith, body-long counts bodies b at n (at + n * 5) (w .wide .ensures .0) refl (omega arith) (o .bodies .inv))
+entry-at-requires c κs = omega (arith, body-long (at-body (c .before .before .before)))
 
 depth-after-requires : tie.Need-depth-after-requires Inv-loop μ-loop Inv-bodies μ-bodies
 depth-after-requires c κs =
     let k = c .before .before .before in
-    let w = k .before in
-    let o = w .before .before .before in
-    let counts = o .before .before .before .args .counts .now in
-    let bodies = o .before .before .before .args .bodies .now in
-    let b = o .bodies .b in
-    let at = o .bodies .at in
-    let n = w .wide .result in
-    omega (arith, k .loop .inv .few, w .wide .ensures, o .before .before .before .pre .counted .small b)
+    let o = k .before .before .before .before in
+    omega (arith, k .loop .inv .few, k .before .wide .ensures, o .before .before .before .pre .counted .small (o .bodies .b))
 
 enum-known-left : tie.Need-enum-known-left Inv-loop μ-loop Inv-bodies μ-bodies
 enum-known-left c = search needs
@@ -111,17 +84,7 @@ loop-less : tie.Need-loop-less Inv-loop μ-loop Inv-bodies μ-bodies
 loop-less c = search needs
 
 loop-again : tie.Need-loop-again Inv-loop μ-loop Inv-bodies μ-bodies
-loop-again c =
-    let k = c .before .before .before .before .before .before .before in
-    let w = k .before in
-    let o = w .before .before .before in
-    let counts = o .before .before .before .args .counts .now in
-    let bodies = o .before .before .before .args .bodies .now in
-    let b = o .bodies .b in
-    let at = o .bodies .at in
-    let n = w .wide .result in
-    let left = c .before .left .given .0 .0 in
-    scanned-more (take (at + n * 5 - at) (drop at bodies)) n (k .loop .e) (k .loop .trees) (k .loop .inv) (omega arith) left cc
+loop-again c = scanned-more (c .before .before .before .before .before .before .before .loop .inv) (omega arith) (c .before .left .given .0 .0) (cc)
 
 add-b : tie.Need-add-b Inv-loop μ-loop Inv-bodies μ-bodies
 add-b c = search needs
@@ -132,42 +95,20 @@ bodies-less c = search needs
 bodies-again : tie.Need-bodies-again Inv-loop μ-loop Inv-bodies μ-bodies
 bodies-again c =
     let k = c .before .before in
-    let w = k .before in
-    let o = w .before .before .before in
-    let counts = o .before .before .before .args .counts .now in
-    let bodies = o .before .before .before .args .bodies .now in
-    let b = o .bodies .b in
-    let at = o .bodies .at in
-    let n = w .wide .result in
-    searched-more counts bodies b at n (at + n * 5) (w .wide .ensures .0) refl (omega arith) (o .bodies .inv) (scanned-one _ n (k .loop .e) (k .loop .trees) (k .loop .inv) (omega arith) (c .if2 .left))
+    searched-more (at-body (k .before)) (scanned-one (k .loop .inv) (omega arith) (c .if2 .left))
 
 returns : tie.Need-returns Inv-loop μ-loop Inv-bodies μ-bodies
-returns c = searched-all _ _ _ _ (c .if1 .taken) (c .before .bodies .inv)
+returns c = searched-all (c .before .bodies .inv) (c .if1 .taken)
 
 returns-2 : tie.Need-returns-2 Inv-loop μ-loop Inv-bodies μ-bodies
 returns-2 c =
     let k = c .before .before .before .before .before .before in
-    let w = k .before in
-    let o = w .before .before .before in
-    let counts = o .before .before .before .args .counts .now in
-    let bodies = o .before .before .before .args .bodies .now in
-    let b = o .bodies .b in
-    let at = o .bodies .at in
-    let n = w .wide .result in
-    searched-here counts bodies b at n (at + n * 5) (w .wide .ensures .0) refl (omega arith) (o .bodies .inv) (k .loop .e)
-    (scanned-lacks (take (at + n * 5 - at) (drop at bodies)) n (k .loop .e) (k .loop .trees) (k .loop .inv) (omega arith) cc)
+    searched-here (at-body (k .before)) (scanned-lacks (k .loop .inv) (omega arith) (cc))
 
 returns-3 : tie.Need-returns-3 Inv-loop μ-loop Inv-bodies μ-bodies
 returns-3 c =
     let k = c .before .before in
-    let w = k .before in
-    let o = w .before .before .before in
-    let counts = o .before .before .before .args .counts .now in
-    let bodies = o .before .before .before .args .bodies .now in
-    let b = o .bodies .b in
-    let at = o .bodies .at in
-    let n = w .wide .result in
-    searched-here counts bodies b at n (at + n * 5) (w .wide .ensures .0) refl (omega arith) (o .bodies .inv) (k .loop .e) (scanned-several _ n (k .loop .e) (k .loop .trees) (k .loop .inv) (omega arith) (c .if2 .taken))
+    searched-here (at-body (k .before)) (scanned-several (k .loop .inv) (omega arith) (c .if2 .taken))
 
 pub broken-body-spec : {M : Type 1} → statement M
 broken-body-spec =

@@ -1,5 +1,4 @@
 -- `file::parts::check_bodies` meets its contract: Size, then what the bodies are answered. Assumes nothing.
-use mathlib.Core.Path.{sym, _∙_}
 use borrow.Author.Tests.{eq-eqb, ne-eqb}
 use Rattle.file.specs.Check.{bodiesCheck}
 use borrow.Author.Needs.{needs}

@@ -48,9 +48,8 @@ entry-kept-requires c κs = search needs
 
 returns : tie.Need-returns Inv-loop μ-loop
 returns c =
-    let k = c .before .before .before .before .before .before in
-    let a = k .before .before .before .args in
-    kept-here (a .names .now) (a .counts .now) _ _ _ (omega arith) (k .loop .inv) (sym (c .before .entry-kept .ensures) ∙ not-true _ (c .if1 .taken))
+    kept-here (c .before .before .before .before .before .before .loop .inv) (omega arith)
+    (sym (c .before .entry-kept .ensures) ∙ not-true _ (c .if1 .taken))
 
 add-at : tie.Need-add-at Inv-loop μ-loop
 add-at c = search needs
@@ -63,12 +62,11 @@ loop-less c = search needs
 
 loop-again : tie.Need-loop-again Inv-loop μ-loop
 loop-again c =
-    let k = c .before .before .before .before .before .before in
-    let a = k .before .before .before .args in
-    kept-more (a .names .now) (a .counts .now) _ _ _ (omega arith) (k .loop .inv) (sym (c .before .entry-kept .ensures) ∙ not-false _ (c .if1 .left))
+    kept-more (c .before .before .before .before .before .before .loop .inv) (omega arith)
+    (sym (c .before .entry-kept .ensures) ∙ not-false _ (c .if1 .left))
 
 returns-2 : tie.Need-returns-2 Inv-loop μ-loop
-returns-2 c = kept-all _ _ _ _ _ (c .loop-test .left) (c .before .loop .inv)
+returns-2 c = kept-all (c .before .loop .inv) (c .loop-test .left)
 
 pub check-entries-spec : {M : Type 1} → statement M
 check-entries-spec =

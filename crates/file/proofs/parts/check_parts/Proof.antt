@@ -35,13 +35,16 @@ returns-4 : tie.Need-returns-4
 returns-4 c =
     let m = c .before .before .before in
     let e = m .before in
-    parts-entry _ _ _ (e .before .before .if1 .left) (e .before .if2 .left) (e .if3 .left) _ (sym (m .check-entries .ensures) ∙ c .before .r .given .1)
+    parts-entry _ _ _ (e .before .before .if1 .left) (e .before .if2 .left) (e .if3 .left) _
+    (sym (m .check-entries .ensures) ∙ c .before .r .given .1)
 
 returns-5 : tie.Need-returns-5
 returns-5 c =
     let m = c .before .before .before in
     let e = m .before in
-    c .check-bodies .ensures ∙ parts-bodies _ _ _ (e .before .before .if1 .left) (e .before .if2 .left) (e .if3 .left) (sym (m .check-entries .ensures) ∙ c .before .enum-told .given .1)
+    c .check-bodies .ensures
+    ∙ parts-bodies _ _ _ (e .before .before .if1 .left) (e .before .if2 .left) (e .if3 .left)
+    (sym (m .check-entries .ensures) ∙ c .before .enum-told .given .1)
 
 pub check-parts-spec : {M : Type 1} → statement M
 check-parts-spec =

@@ -30,9 +30,7 @@ loop-less : tie.Need-loop-less Inv-loop μ-loop
 loop-less c = search needs
 
 loop-again : tie.Need-loop-again Inv-loop μ-loop
-loop-again c =
-    let k = c .before .before in
-    copy-more _ _ _ (omega arith) (k .loop .inv)
+loop-again c = copy-more (c .before .before .loop .inv) (omega arith)
 
 same-length : tie.Need-same-length Inv-loop μ-loop
 same-length c =
@@ -40,7 +38,7 @@ same-length c =
     k .loop .inv .long ∙ sym (k .before .pre)
 
 returns : tie.Need-returns Inv-loop μ-loop
-returns c = copy-all _ _ _ (c .loop-test .left) (c .before .loop .inv)
+returns c = copy-all (c .before .loop .inv) (c .loop-test .left)
 
 pub copy-spec : {M : Type 1} → statement M
 copy-spec =

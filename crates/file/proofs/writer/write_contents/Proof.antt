@@ -59,7 +59,7 @@ write-entry-requires c κs =
     let k = c .before .before .before .before in
     let s = k .before .before .before .before in
     record {
-      named = name-long (s .args .names .now) (s .args .counts .now) _ _ _ _ _ (s .pre .named) (omega arith) (k .loop .inv);
+      named = name-long (k .loop .inv) (omega arith) (s .pre .named);
       long = mid-len (k .loop .at) (k .loop .at + 12) (k .loop .part) (omega arith) ∙ omega arith;
     }
 
@@ -92,8 +92,7 @@ loop-again c =
     let e = c .before .before .before .before in
     let k = e .before .before .before .before .before in
     let s = k .before .before .before .before in
-    filled-more (s .args .names .now) (s .args .counts .now) _ _ _ _ _ (s .pre .named) (omega arith) (k .loop .inv) _ (e .write-entry .ensures)
-    (c .wide .result) (c .wide .ensures .0) (c .wide .ensures .1)
+    filled-more (k .loop .inv) (omega arith) (s .pre .named) (e .write-entry .ensures) (c .wide .ensures .0) (c .wide .ensures .1)
 
 same-length : tie.Need-same-length Inv-loop μ-loop
 same-length c =
@@ -101,7 +100,7 @@ same-length c =
     k .loop .inv .long ∙ sym (k .before .before .before .before .pre .long)
 
 returns : tie.Need-returns Inv-loop μ-loop
-returns c = filled-all _ _ _ _ _ _ _ (c .loop-test .left) (c .before .loop .inv)
+returns c = filled-all (c .before .loop .inv) (c .loop-test .left)
 
 pub write-contents-spec : {M : Type 1} → statement M
 write-contents-spec =
