@@ -1,5 +1,9 @@
 // The check of a file after its count: the contents, then the bodies.
+use crate::CONTENT_BYTES;
+use crate::ENTRY_BYTES;
 use crate::FileCheck;
+use crate::MOST_PATTERNS;
+use crate::NAME_BYTES;
 use crate::parts;
 use refusal::Refusal;
 ghost use mathlib.Core.Path.{_≡_};
@@ -19,17 +23,17 @@ pub fn check_rest(count: usize, rest: &[u8]) -> FileCheck
     if count < 1 {
         return FileCheck::Refused(Refusal::Count);
     }
-    if count > 16 {
+    if count > MOST_PATTERNS {
         return FileCheck::Refused(Refusal::Count);
     }
-    let long = 12 * count;
+    let long = CONTENT_BYTES * count;
     if rest.len() < long {
         return FileCheck::Refused(Refusal::Count);
     }
     match check_contents(count, rest) {
         FileCheck::Refused(r) => FileCheck::Refused(r),
         FileCheck::Sound => {
-            let mut counts = [0u8; 16];
+            let mut counts = [0u8; MOST_PATTERNS];
             copy_counts(count, rest, &mut counts);
             parts::check_bodies(&counts[0..count], &rest[long..])
         }
@@ -42,18 +46,19 @@ fn check_contents(count: usize, rest: &[u8]) -> FileCheck
     ensures { λ r. ⌜ r ≡ onEntry (brokenContent [] (now (rest .entry)) count (bodiesAt count) 0) Sound ⌝ }
 {
     let mut i: usize = 0;
+    // from `from` to `to` is the name before, no bytes before the first
     let mut from: usize = 0;
     let mut to: usize = 0;
     let mut at: usize = 0;
-    let mut offset = 1 + 12 * count;
+    let mut offset = 1 + CONTENT_BYTES * count;
     while i < count {
         if !content_kept(&rest[from..to], &rest[at..], offset) {
             return FileCheck::Refused(Refusal::Entry(i));
         }
-        offset += parts::wide(rest[at + 10]) * 5;
+        offset += parts::wide(rest[at + 10]) * ENTRY_BYTES;
         from = at;
-        to = at + 8;
-        at += 12;
+        to = at + NAME_BYTES;
+        at += CONTENT_BYTES;
         i += 1;
     }
     FileCheck::Sound
@@ -64,7 +69,7 @@ fn content_kept(before: &[u8], contents: &[u8], offset: usize) -> bool
     requires { ⌜ 12 ≤ length (now contents) ⌝ }
     ensures { λ r. ⌜ r ≡ contentKept (now (before .entry)) (now (contents .entry)) offset ⌝ }
 {
-    if !parts::entry_kept(before, &contents[0..8], contents[10]) {
+    if !parts::entry_kept(before, &contents[0..NAME_BYTES], contents[10]) {
         return false;
     }
     let begins = offset_of(contents);
@@ -92,7 +97,7 @@ fn copy_counts(count: usize, rest: &[u8], counts: &mut [u8])
     let mut at: usize = 0;
     while i < count {
         counts[i] = rest[at + 10];
-        at += 12;
+        at += CONTENT_BYTES;
         i += 1;
     }
 }

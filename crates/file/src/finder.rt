@@ -1,4 +1,7 @@
 // The search for a name in a sound file.
+use crate::CONTENT_BYTES;
+use crate::ENTRY_BYTES;
+use crate::NAME_BYTES;
 use crate::Place;
 use crate::contents;
 use crate::parts;
@@ -16,13 +19,13 @@ pub fn find(file: &[u8], name: &[u8]) -> Place
     let mut i: usize = 0;
     let mut at: usize = 1;
     while i < count {
-        if is_same(&file[at..at + 8], name) {
+        if is_same(&file[at..at + NAME_BYTES], name) {
             return Place::At(
                 contents::offset_of(&file[at..]),
-                parts::wide(file[at + 10]) * 5,
+                parts::wide(file[at + 10]) * ENTRY_BYTES,
             );
         }
-        at += 12;
+        at += CONTENT_BYTES;
         i += 1;
     }
     Place::Nowhere

@@ -11,6 +11,19 @@ ghost use Rattle.file.specs.Check.{checkOf};
 ghost use Rattle.file.specs.Write.{Wrote};
 ghost use Rattle.file.specs.Lookup.{findingOf, partOf};
 
+// The most patterns of a file.
+const MOST_PATTERNS: usize = 16;
+
+// The bytes of a name, and of an entry of the contents.
+const NAME_BYTES: usize = 8;
+
+const CONTENT_BYTES: usize = 12;
+
+// The bytes of an entry of a body, and the most entries.
+const ENTRY_BYTES: usize = 5;
+
+const MOST_ENTRIES: u8 = 63;
+
 // What the check of a file answers.
 pub enum FileCheck {
     Sound,
@@ -60,7 +73,7 @@ pub fn write_file(names: &[u8], counts: &[u8], bodies: &[u8], file: &mut [u8]) -
     match parts::check_parts(names, counts, bodies) {
         FileCheck::Refused(r) => Writing::Refused(r),
         FileCheck::Sound => {
-            let bodies_at = 1 + 12 * counts.len();
+            let bodies_at = 1 + CONTENT_BYTES * counts.len();
             let needed = bodies_at + bodies.len();
             if file.len() < needed {
                 return Writing::Refused(Refusal::Room(needed));

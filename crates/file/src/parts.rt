@@ -1,5 +1,9 @@
 // The rules that a file and the parts given to the writer share: on an entry of the contents, and on the bodies.
+use crate::ENTRY_BYTES;
 use crate::FileCheck;
+use crate::MOST_ENTRIES;
+use crate::MOST_PATTERNS;
+use crate::NAME_BYTES;
 use crate::name;
 use body::Depth;
 use refusal::Refusal;
@@ -18,10 +22,10 @@ pub fn check_parts(names: &[u8], counts: &[u8], bodies: &[u8]) -> FileCheck
     if counts.len() < 1 {
         return FileCheck::Refused(Refusal::Count);
     }
-    if counts.len() > 16 {
+    if counts.len() > MOST_PATTERNS {
         return FileCheck::Refused(Refusal::Count);
     }
-    if names.len() != 8 * counts.len() {
+    if names.len() != NAME_BYTES * counts.len() {
         return FileCheck::Refused(Refusal::Count);
     }
     match check_entries(names, counts) {
@@ -36,14 +40,15 @@ fn check_entries(names: &[u8], counts: &[u8]) -> FileCheck
     ensures { λ r. ⌜ r ≡ onEntry (brokenEntry [] (now (names .entry)) (now (counts .entry)) 0) Sound ⌝ }
 {
     let mut i: usize = 0;
+    // from `from` to `at` is the name before, no bytes before the first
     let mut from: usize = 0;
     let mut at: usize = 0;
     while i < counts.len() {
-        if !entry_kept(&names[from..at], &names[at..at + 8], counts[i]) {
+        if !entry_kept(&names[from..at], &names[at..at + NAME_BYTES], counts[i]) {
             return FileCheck::Refused(Refusal::Entry(i));
         }
         from = at;
-        at += 8;
+        at += NAME_BYTES;
         i += 1;
     }
     FileCheck::Sound
@@ -62,7 +67,7 @@ pub fn entry_kept(before: &[u8], name: &[u8], n: u8) -> bool
     if n < 1 {
         return false;
     }
-    n <= 63
+    n <= MOST_ENTRIES
 }
 
 // Checks bodies that lie end to end: that they end where their numbers of entries say, and each of them.
@@ -84,7 +89,7 @@ fn all_bytes(counts: &[u8]) -> usize
     let mut i: usize = 0;
     let mut sum: usize = 0;
     while i < counts.len() {
-        sum += wide(counts[i]) * 5;
+        sum += wide(counts[i]) * ENTRY_BYTES;
         i += 1;
     }
     sum
@@ -109,7 +114,7 @@ fn broken_body(counts: &[u8], bodies: &[u8]) -> FileCheck
             break 'bodies FileCheck::Sound;
         }
         let n = wide(counts[b]);
-        let end = at + n * 5;
+        let end = at + n * ENTRY_BYTES;
         let mut e: usize = 0;
         let mut trees: u64 = 0;
         while e < n {

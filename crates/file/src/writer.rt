@@ -1,4 +1,7 @@
 // Writing the contents of a file.
+use crate::CONTENT_BYTES;
+use crate::ENTRY_BYTES;
+use crate::NAME_BYTES;
 use crate::parts;
 ghost use mathlib.Core.Path.{_≡_};
 ghost use lib.ListN.{length};
@@ -13,17 +16,17 @@ pub fn write_contents(names: &[u8], counts: &[u8], part: &mut [u8])
     let mut i: usize = 0;
     let mut from: usize = 0;
     let mut at: usize = 0;
-    let mut offset = 1 + 12 * counts.len();
+    let mut offset = 1 + CONTENT_BYTES * counts.len();
     while i < counts.len() {
         write_entry(
-            &names[from..from + 8],
+            &names[from..from + NAME_BYTES],
             offset,
             counts[i],
-            &mut part[at..at + 12],
+            &mut part[at..at + CONTENT_BYTES],
         );
-        offset += parts::wide(counts[i]) * 5;
-        from += 8;
-        at += 12;
+        offset += parts::wide(counts[i]) * ENTRY_BYTES;
+        from += NAME_BYTES;
+        at += CONTENT_BYTES;
         i += 1;
     }
 }
@@ -33,7 +36,7 @@ fn write_entry(name: &[u8], offset: usize, n: u8, entry: &mut [u8])
     requires { ⌜ EntryReady (now name) (now entry) ⌝ }
     ensures { λ _. ⌜ now (entry .exit) ≡ contentOf (now (name .entry)) offset n ⌝ }
 {
-    copy(name, &mut entry[0..8]);
+    copy(name, &mut entry[0..NAME_BYTES]);
     entry[8] = (offset % 256) as u8;
     entry[9] = (offset / 256 % 256) as u8;
     entry[10] = n;
