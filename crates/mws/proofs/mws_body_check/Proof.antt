@@ -1,0 +1,30 @@
+-- `mws::mws_body_check` meets its contract: the word of the check's answer. Assumes nothing.
+use mathlib.Core.Path.{refl, sym, ap, subst, _∙_}
+use Rattle.mws.specs.Status.{checkStatus}
+use native.Mathlib.Omega.{arith}
+use borrow.Author.Needs.{needs}
+use Rattle.mws.proofs.mws_body_check.Statement.{statement}
+use Rattle.mws.proofs.mws_body_check.Tie as tie
+
+check-body-requires : tie.Need-check-body-requires
+check-body-requires c κs = search needs
+
+enum-told : tie.Need-enum-told
+enum-told c = search needs
+
+enum-known-r : tie.Need-enum-known-r
+enum-known-r c = search needs
+
+packed-requires : tie.Need-packed-requires
+packed-requires c κs = search needs
+
+returns : tie.Need-returns
+returns c = ap checkStatus (sym (c .enum-told .given .1) ∙ c .before .before .check-body .ensures)
+
+returns-2 : tie.Need-returns-2
+returns-2 c = c .packed .ensures ∙ ap checkStatus (sym (c .before .before .r .given .1) ∙ c .before .before .before .before .check-body .ensures)
+
+pub mws-body-check-spec : {M : Type 1} → statement M
+mws-body-check-spec =
+    tie.close
+    (tie.spec check-body-requires enum-told enum-known-r packed-requires returns returns-2)

@@ -1,0 +1,41 @@
+-- `mws::mws_row_latest` meets its contract: the number of the latest start. Assumes nothing.
+use mathlib.Core.Path.{refl, sym, ap, subst, _∙_}
+use Rattle.plain.specs.declared.Start.the-variants.{Nowhere, At}
+use Rattle.plain.specs.Row.{IsLatest}
+use native.Mathlib.Omega.{arith}
+use borrow.Author.Needs.{needs}
+use Rattle.mws.proofs.mws_row_latest.Statement.{statement}
+use Rattle.mws.proofs.mws_row_latest.Tie as tie
+
+latest-start-requires : tie.Need-latest-start-requires
+latest-start-requires c κs = search needs
+
+enum-told : tie.Need-enum-told
+enum-told c = search needs
+
+enum-known-s : tie.Need-enum-known-s
+enum-known-s c = search needs
+
+cast-result : tie.Need-cast-result
+cast-result c = search needs
+
+add-result : tie.Need-add-result
+add-result c = search needs
+
+returns : tie.Need-returns
+returns c = record { start = Nowhere; promise = subst (IsLatest _) (c .enum-told .given .1) (c .before .before .latest-start .ensures); number = refl }
+
+returns-2 : tie.Need-returns-2
+returns-2 c = record { start = At (c .before .s .given .0 .0); promise = subst (IsLatest _) (c .before .s .given .1) (c .before .before .before .latest-start .ensures); number = omega arith }
+
+pub mws-row-latest-spec : {M : Type 1} → statement M
+mws-row-latest-spec =
+    tie.close
+    (tie.spec
+    latest-start-requires
+    enum-told
+    enum-known-s
+    cast-result
+    add-result
+    returns
+    returns-2)
