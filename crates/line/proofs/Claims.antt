@@ -1,6 +1,6 @@
 -- The theorems: what reading and writing promise leaves no choice, since the answer is what a function of the arguments computes; and
 -- what is written of a tick is read back. Assumes nothing.
-use mathlib.Core.Path.{_≡_, refl, sym, ap, ap₂, _∙_, subst}
+use mathlib.Core.Path.{_≡_, refl, sym, ap, _∙_, subst}
 use mathlib.Core.Logic.{_⊎_, inl, inr}
 use mathlib.Core.Bool.{cond}
 use Prim.Native.Nat.{ℕ, _+_, _^_, _<_, _≤_}
@@ -12,8 +12,8 @@ use borrow.Author.Tests.{lt-ltb, le-ltb}
 use Rattle.rules.specs.Limits.{letters, ticks}
 use Rattle.refusal.specs.declared.Refusal.the-variants.{Line, Range, Room}
 use Rattle.text.proofs.Branches.{by-test, either-way}
-use Rattle.line.specs.Lines.{mostLine, mostDigits, decimal, lettersOf, tickLine, numbersLine, windowsWord, ticksWord, refusedWord, codeWord}
-use Rattle.line.specs.Answer.{LineOf, IsTick, IsRange, RefusedLine, LineReadOf, LineWrittenOf}
+use Rattle.line.specs.Lines.{mostLine, mostDigits, tickLine, numbersLine, windowsWord, ticksWord, refusedWord, codeWord}
+use Rattle.line.specs.Answer.{LineOf, IsRange, RefusedLine, LineReadOf}
 use Rattle.line.specs.Answer.RefusedLine.{long, malformed, range}
 use Rattle.line.specs.Answer.RefusedWriting.{room}
 use Rattle.line.specs.Claim.{OneReading, OneWriting, OneTick, ReadBack, LineExactly, RangeExactly, WrittenFits, WrittenLacks, AtMostWritten}
@@ -44,7 +44,8 @@ module _ (s : List ℕ) where
 
   of-malformed : ((t w : ℕ) → LineOf s t w → ⊥) → readOf s ≡ Unread Line
   unfolding readOf parsedTo
-  of-malformed f = by-test (λ b. cond b (Unread Line) (parsedTo (parse s)) ≡ Unread Line) (ltb mostLine (length s)) (λ e. refl) (λ e. go (parse s) refl)
+  of-malformed f =
+      by-test (λ b. cond b (Unread Line) (parsedTo (parse s)) ≡ Unread Line) (ltb mostLine (length s)) (λ e. refl) (λ e. go (parse s) refl)
     where
       go : (p : Parsed) → parse s ≡ p → parsedTo p ≡ Unread Line
       go none q = refl

@@ -1,12 +1,12 @@
 -- The letters of a word of events, both ways: what is written is read, and what is read was written. The word so far holds only types
 -- below the next one allowed, so that a letter's bit is added to it. Assumes nothing.
 use mathlib.Core.Path.{_≡_, refl, sym, ap, ap₂, _∙_}
-use Prim.Native.Nat.{ℕ, zero, suc, _+_, _-_, _*_, _/_, _%_, _^_, _<_, _≤_}
+use Prim.Native.Nat.{ℕ, zero, suc, _+_, _-_, _*_, _%_, _^_, _<_, _≤_}
 use native.Mathlib.Omega.{arith}
 use native.Mathlib.Nat.{add-comm, mod-lt, mod-eq-of-lt, lt-of-lt-of-le, one-mul}
 use mathlib.Core.List.{List, [], _∷_, _++_}
 use lib.Pow.{pow-pos, pow-add, pow-mono, shl-exact, mod-pow-add, mod-mod-pow}
-use lib.ListN.{length, length-append}
+use lib.ListN.{length}
 use borrow.Author.Tests.{lt-ltb, le-ltb, eq-eqb, ne-eqb}
 use Rattle.rules.specs.Limits.{letters}
 use Rattle.rules.specs.Bits.{bit}
@@ -38,6 +38,11 @@ module _ (c : ℕ) (s : List ℕ) (n w : ℕ) where
   unfolding wordFrom
   word-other l h = simp (le-ltb (letterOf c) n l, le-ltb (letterOf c) letters h)
 
+word-letter : (k : ℕ) (s : List ℕ) (n w : ℕ) → n ≤ k → k < letters → wordFrom n w (letterByte k ∷ s) ≡ wordFrom (k + 1) (w + 2 ^ k) s
+word-letter k s n w l h =
+    let e : letterOf (letterByte k) ≡ k = letter-byte k h in
+    word-more (letterByte k) s n w (omega arith) (omega arith) ∙ ap (λ (i : ℕ). wordFrom (i + 1) (w + 2 ^ i) s) e
+
 -- a word's low part takes in one bit more
 low-next : (v n : ℕ) → v % 2 ^ (n + 1) ≡ bit v n * 2 ^ n + v % 2 ^ n
 unfolding bit
@@ -56,8 +61,7 @@ word-from zero n m v e l h = let q : n ≡ letters = omega arith in ap (λ (k : 
 word-from (suc types) n m v e l h =
     either-is (bit v n) 1
     (λ b. ap (λ (x : List ℕ). wordFrom m (v % 2 ^ n) (x ++ lettersFrom types (n + 1) v)) (letter-on v n b)
-    ∙ word-more (letterByte n) (lettersFrom types (n + 1) v) m (v % 2 ^ n) (omega (arith, letter-byte n (omega arith))) (omega (arith, letter-byte n (omega arith)))
-    ∙ ap (λ (k : ℕ). wordFrom (k + 1) (v % 2 ^ n + 2 ^ k) (lettersFrom types (n + 1) v)) (letter-byte n (omega arith))
+    ∙ word-letter n (lettersFrom types (n + 1) v) m (v % 2 ^ n) l (omega arith)
     ∙ ap (λ (w : ℕ). wordFrom (n + 1) w (lettersFrom types (n + 1) v)) (low-on v n b)
     ∙ word-from types (n + 1) (n + 1) v (omega arith) (omega arith) h)
     (λ b. let z : bit v n ≡ 0 = omega (arith, bit-lt v n) in

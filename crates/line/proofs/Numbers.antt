@@ -10,7 +10,7 @@ use Rattle.text.specs.Machine.{digitOf}
 use Rattle.text.proofs.Branches.{either-way, either-is}
 use Rattle.text.proofs.Bytes.{digit-byte, byte-digit}
 use Rattle.line.specs.Lines.{decimal}
-use Rattle.line.specs.Scan.{Front, frontOf, grow}
+use Rattle.line.specs.Scan.{frontOf, grow}
 use Rattle.line.specs.Scan.Front.{none, number}
 use Rattle.line.proofs.Decimals.{decimal-one, decimal-next}
 

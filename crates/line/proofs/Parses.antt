@@ -1,14 +1,13 @@
 -- A line is read to a tick and a word exactly if it is their line. Assumes nothing.
 use mathlib.Core.Path.{_≡_, refl, sym, ap, ap₂, _∙_}
-use Prim.Native.Nat.{ℕ, _+_, _^_, _<_, _≤_}
+use Prim.Native.Nat.{ℕ, _+_, _<_}
 use native.Mathlib.Omega.{arith}
 use mathlib.Core.List.{List, [], _∷_, _++_}
 use borrow.Author.Tests.{eq-eqb, ne-eqb}
-use Rattle.rules.specs.Limits.{letters}
 use Rattle.text.proofs.Branches.{either-is}
-use Rattle.line.specs.Lines.{decimal, lettersOf, tickLine}
+use Rattle.line.specs.Lines.{decimal, lettersOf}
 use Rattle.line.specs.Answer.{LineOf}
-use Rattle.line.specs.Scan.{Front, frontOf, wordOf, Parsed, withWord, afterFront, parse}
+use Rattle.line.specs.Scan.{Front, frontOf, wordOf, withWord, afterFront, parse}
 use Rattle.line.specs.Scan.Front.{none, number}
 use Rattle.line.specs.Scan.Parsed.{malformed, line}
 use Rattle.line.proofs.Numbers.{front-decimal, front-sound}

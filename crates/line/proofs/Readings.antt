@@ -1,9 +1,9 @@
 -- The ways that the reader's functions go: one lemma for each answer. Assumes nothing.
-use mathlib.Core.Path.{_≡_, refl, sym, ap, ap₂, _∙_}
-use Prim.Native.Nat.{ℕ, suc, _+_, _*_, _%_, _^_, _<_, _≤_, min}
+use mathlib.Core.Path.{_≡_, refl, sym, ap, _∙_}
+use Prim.Native.Nat.{ℕ, _+_, _*_, _%_, _^_, _<_, _≤_, min}
 use native.Mathlib.Omega.{arith}
 use native.Mathlib.Numerals.{add-one}
-use mathlib.Core.List.{List, [], _∷_}
+use mathlib.Core.List.{List, _∷_}
 use lib.ListN.{length, getD, drop, drop-of-length-le}
 use lib.Seq.{drop-cons}
 use borrow.Author.Tests.{eq-eqb, ne-eqb}
@@ -11,9 +11,9 @@ use Rattle.rules.specs.Limits.{letters, ticks}
 use Rattle.text.specs.Machine.{letterOf, digitOf}
 use Rattle.line.specs.Lines.{mostLine}
 use Rattle.line.specs.Answer.{LineOf, IsTick, IsRange}
-use Rattle.line.specs.Scan.{Front, frontOf, grow, wordFrom, wordOf, withWord, afterFront, parse}
+use Rattle.line.specs.Scan.{frontOf, grow, wordFrom, wordOf, withWord, afterFront, parse}
 use Rattle.line.specs.Scan.Front.{none, number}
-use Rattle.line.specs.Scan.Parsed.{malformed, line}
+use Rattle.line.specs.Scan.Parsed.{malformed}
 use Rattle.line.specs.Told.{IsNumber}
 use Rattle.line.proofs.Numbers.{grow-digit, grow-other, front-other, front-zero, front-grow}
 use Rattle.line.proofs.Letters.{word-more, word-low, word-other, word-fits, bit-shifted}
@@ -55,7 +55,9 @@ module _ (s : List ℕ) where
       some = p;
       told = omega arith;
       inside = omega arith;
-      reads = ap frontOf (next-byte s 0 h) ∙ front-grow (getD s 0 0) (drop 1 s) (omega arith) (omega arith) ∙ ap (λ (v : ℕ). grow v (drop 1 s)) (sym q);
+      reads =
+          ap frontOf (next-byte s 0 h) ∙ front-grow (getD s 0 0) (drop 1 s) (omega arith) (omega arith)
+          ∙ ap (λ (v : ℕ). grow v (drop 1 s)) (sym q);
     }
 
   module _ {end value : ℕ} (g : Going s end value) where

@@ -4,7 +4,6 @@ mod writer;
 
 use reader::Decimal;
 use refusal::Refusal;
-ghost use mathlib.Core.Path.{_≡_};
 ghost use Rattle.line.specs.Lines.{windowLine, tallyLine, refusedLine};
 ghost use Rattle.line.specs.Answer.{LineReadOf, LineWrittenOf};
 
@@ -26,7 +25,7 @@ pub enum LineWritten {
     Refused(Refusal),
 }
 
-// Reads a tick, one space, and one or more letters in type order, none twice. A tick too large for 32 bits is refused only if all else is well formed.
+// Reads a tick, one space, and one or more letters in type order, none twice. A tick too large is told only of a line that is else well formed.
 pub fn read_tick(line: &[u8]) -> LineRead
     ensures { λ r. ⌜ LineReadOf (now (line .entry)) r ⌝ }
 {

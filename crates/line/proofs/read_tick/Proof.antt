@@ -1,6 +1,8 @@
 -- `line::read_tick` meets its contract: each way out, by what the number and the letters were read to. Assumes nothing.
 use native.Mathlib.Omega.{arith}
-use mathlib.Core.Path.{_≡_, subst}
+use mathlib.Core.Path.{subst}
+use Prim.Native.Nat.{_<_}
+use lib.ListN.{length}
 use denote.Ref.{now}
 use Rattle.line.specs.Answer.RefusedLine.{long, malformed, range}
 use Rattle.line.specs.Told.{NumberOf, IsNumber}
@@ -11,8 +13,14 @@ use Rattle.line.proofs.read_tick.Statement.{statement}
 use Rattle.line.proofs.read_tick.Tie as tie
 
 -- the number, as `read_number` promises it
-number-is : (c : tie.After-number) → IsNumber (now (c .before .before .before .before .before .args .line)) (c .number .given .0 .0) (c .number .given .0 .1 .0)
+number-is : (c : tie.After-number)
+    → IsNumber (now (c .before .before .before .before .before .args .line)) (c .number .given .0 .0) (c .number .given .0 .1 .0)
 number-is c = subst (NumberOf _) (c .number .given .1) (c .before .before .read-number .ensures)
+
+-- a byte follows it
+byte-follows : (c : tie.Else2)
+    → let n = c .before .before in n .number .given .0 .0 < length (now (n .before .before .before .before .before .args .line))
+byte-follows c = let i = number-is (c .before .before) in omega arith
 
 returns : tie.Need-returns
 returns c = long (omega arith)
@@ -30,28 +38,42 @@ returns-2 : tie.Need-returns-2
 returns-2 c = malformed (no-line _ (parsed-end _ (number-is (c .before .before)) (omega arith)))
 
 shared-slice-read-if3 : tie.Need-shared-slice-read-if3
-shared-slice-read-if3 c = let i = number-is (c .before .before .before) in omega arith
+shared-slice-read-if3 c = byte-follows (c .before)
 
 returns-3 : tie.Need-returns-3
-returns-3 c = malformed (no-line _ (parsed-other _ (number-is (c .before .before .before .before)) (let i = number-is (c .before .before .before .before) in omega arith) (c .if3 .taken)))
+returns-3 c =
+    let e = c .before .before in
+    malformed (no-line _ (parsed-other _ (number-is (e .before .before)) (byte-follows e) (c .if3 .taken)))
 
 add-read-letters : tie.Need-add-read-letters
-add-read-letters c = let i = number-is (c .before .before .before .before) in omega arith
+add-read-letters c = let h = byte-follows (c .before .before) in omega arith
 
 read-letters-requires : tie.Need-read-letters-requires
-read-letters-requires c κs = let i = number-is (c .before .before .before .before) in omega arith
+read-letters-requires c κs = let h = byte-follows (c .before .before) in omega arith
 
 returns-4 : tie.Need-returns-4
-returns-4 c = malformed (no-line _ (parsed-no-letter _ (number-is (c .before .before .before .before .before .before)) (let i = number-is (c .before .before .before .before .before .before) in omega arith) (c .before .before .if3 .left) _ (c .before .read-letters .ensures) (c .if4 .taken)))
+returns-4 c =
+    let l = c .before in
+    let e = l .before .before .before in
+    malformed (no-line _ (parsed-no-letter _ (number-is (e .before .before)) (byte-follows e) (l .before .if3 .left) _ (l .read-letters .ensures)
+    (c .if4 .taken)))
 
 returns-5 : tie.Need-returns-5
-returns-5 c = range (out-of-range _ (number-is (c .before .before .before .before .before .before .before)) (let i = number-is (c .before .before .before .before .before .before .before) in omega arith) (c .before .before .before .if3 .left) _ (c .before .before .read-letters .ensures) (omega arith) (c .before .if4 .left) (omega arith))
+returns-5 c =
+    let l = c .before .before in
+    let e = l .before .before .before in
+    range (out-of-range _ (number-is (e .before .before)) (byte-follows e) (l .before .if3 .left) _ (l .read-letters .ensures)
+    (omega arith) (c .before .if4 .left) (omega arith))
 
 returns-6 : tie.Need-returns-6
 returns-6 c = malformed (no-line _ (parsed-none _ (subst (NumberOf _) (c .enum-told .given .1) (c .before .before .read-number .ensures))))
 
 returns-7 : tie.Need-returns-7
-returns-7 c = in-range _ (number-is (c .before .before .before .before .before .before .before)) (let i = number-is (c .before .before .before .before .before .before .before) in omega arith) (c .before .before .before .if3 .left) _ (c .before .before .read-letters .ensures) (omega arith) (c .before .if4 .left) (omega arith)
+returns-7 c =
+    let l = c .before .before in
+    let e = l .before .before .before in
+    in-range _ (number-is (e .before .before)) (byte-follows e) (l .before .if3 .left) _ (l .read-letters .ensures)
+    (omega arith) (c .before .if4 .left) (omega arith)
 
 pub read-tick-spec : {M : Type 1} → statement M
 read-tick-spec =

@@ -27,7 +27,9 @@ returns : tie.Need-returns Inv-loop μ-loop
 returns c = letters-low (c .before .before .before .before .loop .inv) (omega arith) _ (c .before .letter .ensures) (omega arith)
 
 returns-2 : tie.Need-returns-2 Inv-loop μ-loop
-returns-2 c = letters-other (c .before .before .before .before .before .loop .inv) (omega arith) _ (c .before .before .letter .ensures) (omega arith) (omega arith)
+returns-2 c =
+    let l = c .before .before in
+    letters-other (l .before .before .before .loop .inv) (omega arith) _ (l .letter .ensures) (omega arith) (omega arith)
 
 cast-events : tie.Need-cast-events Inv-loop μ-loop
 cast-events c = search needs
@@ -36,7 +38,9 @@ shl-events : tie.Need-shl-events Inv-loop μ-loop
 shl-events c = search needs
 
 add-events : tie.Need-add-events Inv-loop μ-loop
-add-events c = record { fits = word-sum _ _ _ (omega arith) (omega arith) (c .before .before .before .before .before .loop .inv .fits) }
+add-events c =
+    let l = c .before .before in
+    record { fits = word-sum _ _ _ (omega arith) (omega arith) (l .before .before .before .loop .inv .fits) }
 
 add-next : tie.Need-add-next Inv-loop μ-loop
 add-next c = search needs
@@ -48,7 +52,9 @@ loop-less : tie.Need-loop-less Inv-loop μ-loop
 loop-less c = search needs
 
 loop-again : tie.Need-loop-again Inv-loop μ-loop
-loop-again c = letters-more (c .before .before .before .before .before .loop .inv) (omega arith) _ (c .before .before .letter .ensures) (omega arith) (omega arith)
+loop-again c =
+    let l = c .before .before in
+    letters-more (l .before .before .before .loop .inv) (omega arith) _ (l .letter .ensures) (omega arith) (omega arith)
 
 returns-3 : tie.Need-returns-3 Inv-loop μ-loop
 returns-3 c = letters-end (c .before .loop .inv) (omega arith)

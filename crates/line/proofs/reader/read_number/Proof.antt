@@ -62,7 +62,9 @@ loop-less : tie.Need-loop-less Inv-loop μ-loop
 loop-less c = search needs
 
 loop-again : tie.Need-loop-again Inv-loop μ-loop
-loop-again c = going-more _ (c .before .before .before .before .before .loop .inv) (omega arith) _ (c .before .before .digit2 .ensures) _ (omega arith) (c .capped .ensures)
+loop-again c =
+    let d = c .before .before in
+    going-more _ (d .before .before .before .loop .inv) (omega arith) _ (d .digit2 .ensures) _ (omega arith) (c .capped .ensures)
 
 returns-5 : tie.Need-returns-5 Inv-loop μ-loop
 returns-5 c = value-end _ (c .before .loop .inv) (omega arith)

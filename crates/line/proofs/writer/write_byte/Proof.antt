@@ -1,6 +1,5 @@
 -- `line::writer::write_byte` meets its contract: one store. Assumes nothing.
 use borrow.Author.Needs.{needs}
-use native.Mathlib.Omega.{arith}
 use Rattle.line.proofs.Backwards.{byte-back}
 use Rattle.line.proofs.writer.write_byte.Statement.{statement}
 use Rattle.line.proofs.writer.write_byte.Tie as tie

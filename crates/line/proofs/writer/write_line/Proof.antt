@@ -14,6 +14,10 @@ use borrow.Author.Needs.{needs}
 use Rattle.line.proofs.writer.write_line.Statement.{statement}
 use Rattle.line.proofs.writer.write_line.Tie as tie
 
+-- where the function begins
+abbrev start-of : tie.After-write-word → tie.Start
+start-of c = c .before .before .before .before .before .before .before .before .before
+
 -- the digits of the two numbers
 digits-a : (c : tie.Start) → length (decimal (c .args .a)) ≤ mostDigits
 digits-a c = decimal-fits _ (c .fits .a .fits)
@@ -22,11 +26,15 @@ digits-b : (c : tie.Start) → length (decimal (c .args .b)) ≤ mostDigits
 digits-b c = decimal-fits _ (c .fits .b .fits)
 
 -- the whole line, part by part
-line-is : (c : tie.After-write-word2) → let a = c .before .before .before .before .before .before .before .before .before .before .before .before .before .args in
-    Backward (replicate mostWritten 0) (c .write-word2 .last .0) mostWritten (c .write-word2 .result) (numbersLine (now (a .one)) (a .a) (now (a .two)) (a .b))
+line-is : (c : tie.After-write-word2) → let a = start-of (c .before .before .before .before) .args in
+    Backward (replicate mostWritten 0) (c .write-word2 .last .0) mostWritten (c .write-word2 .result)
+    (numbersLine (now (a .one)) (a .a) (now (a .two)) (a .b))
 line-is c =
-    before-back (before-back (before-back (before-back (c .before .before .before .before .before .before .before .before .write-byte .ensures) (c .before .before .before .before .before .before .write-number .ensures))
-    (c .before .before .before .before .write-word .ensures)) (c .before .before .write-number2 .ensures)) (c .write-word2 .ensures)
+    let first = c .before .before in
+    let middle = first .before .before in
+    let second = middle .before .before in
+    before-back (before-back (before-back (before-back (second .before .before .write-byte .ensures) (second .write-number .ensures))
+    (middle .write-word .ensures)) (first .write-number2 .ensures)) (c .write-word2 .ensures)
 
 write-byte-requires : tie.Need-write-byte-requires
 write-byte-requires c κs = search needs
@@ -35,13 +43,41 @@ write-number-requires : tie.Need-write-number-requires
 write-number-requires c κs = search needs
 
 write-word-requires : tie.Need-write-word-requires
-write-word-requires c κs = let s = c .before .before .before .before .before .before .before .before in omega (arith, digits-b s, s .pre, c .before .write-number .ensures .room, c .before .before .before .write-byte .ensures .room)
+write-word-requires c κs =
+    let second = c .before in
+    let s = second .before .before .before .before .before .before .before in
+    omega (arith, digits-b s, s .pre, second .write-number .ensures .room, second .before .before .write-byte .ensures .room)
 
 write-number-requires-2 : tie.Need-write-number-requires-2
-write-number-requires-2 c κs = let s = c .before .before .before .before .before .before .before .before .before .before in omega (arith, digits-b s, s .pre, c .before .write-word .ensures .room, c .before .before .before .write-number .ensures .room, c .before .before .before .before .before .write-byte .ensures .room)
+write-number-requires-2 c κs =
+    let middle = c .before in
+    let second = middle .before .before in
+    let s = start-of middle in
+    omega (
+      arith,
+      digits-b s,
+      s .pre,
+      middle .write-word .ensures .room,
+      second .write-number .ensures .room,
+      second .before .before .write-byte .ensures .room,
+    )
 
 write-word-requires-2 : tie.Need-write-word-requires-2
-write-word-requires-2 c κs = let s = c .before .before .before .before .before .before .before .before .before .before .before .before in omega (arith, digits-a s, digits-b s, s .pre, c .before .write-number2 .ensures .room, c .before .before .before .write-word .ensures .room, c .before .before .before .before .before .write-number .ensures .room, c .before .before .before .before .before .before .before .write-byte .ensures .room)
+write-word-requires-2 c κs =
+    let first = c .before in
+    let middle = first .before .before in
+    let second = middle .before .before in
+    let s = start-of middle in
+    omega (
+      arith,
+      digits-a s,
+      digits-b s,
+      s .pre,
+      first .write-number2 .ensures .room,
+      middle .write-word .ensures .room,
+      second .write-number .ensures .room,
+      second .before .before .write-byte .ensures .room,
+    )
 
 sub-need : tie.Need-sub-need
 sub-need c = search needs
