@@ -1,5 +1,6 @@
 // The cases of document 01 that are run. Each prints its name, then a refusal's number, place and entry, 0 0 0 where nothing is refused.
 mod bodies;
+mod files;
 mod show;
 mod texts;
 mod watches;
@@ -8,4 +9,5 @@ fn main() {
     bodies::run();
     texts::run();
     watches::run();
+    files::run();
 }
