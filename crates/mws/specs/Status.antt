@@ -3,7 +3,7 @@
 -- Assumes nothing: these are definitions.
 use mathlib.Core.Path.{_≡_}
 use mathlib.Core.List.{List}
-use Prim.Native.Nat.{ℕ, suc}
+use Prim.Native.Nat.{ℕ, suc, _+_, _^_}
 use Rattle.refusal.specs.Table.{packedOf}
 use Rattle.body.specs.declared.BodyCheck.{BodyCheck}
 use Rattle.body.specs.declared.BodyCheck.the-variants as Checks
@@ -12,6 +12,15 @@ use Rattle.text.specs.declared.Reading.the-variants as Reads
 use Rattle.text.specs.declared.Printing.{Printing}
 use Rattle.text.specs.declared.Printing.the-variants as Prints
 use Rattle.text.specs.Answer.{ReadingOf, PrintingOf}
+use Rattle.file.specs.declared.FileCheck.{FileCheck}
+use Rattle.file.specs.declared.FileCheck.the-variants as Files
+use Rattle.file.specs.declared.Writing.{Writing}
+use Rattle.file.specs.declared.Writing.the-variants as Writes
+use Rattle.file.specs.declared.Whose.{Whose}
+use Rattle.file.specs.declared.Whose.the-variants.{Site, Fleet}
+use Rattle.file.specs.declared.Finding.{Finding}
+use Rattle.file.specs.declared.Finding.the-variants as Finds
+use Rattle.file.specs.Write.{Wrote}
 use Rattle.plain.specs.declared.Evaluation.{Evaluation}
 use Rattle.plain.specs.declared.Evaluation.the-variants as Evaluates
 use Rattle.plain.specs.declared.Start.{Start}
@@ -118,3 +127,49 @@ pub record StateTicked (s s′ : List ℕ) (t w a a′ status : ℕ) : Type 0 wh
   pub promise : TickAnswers s s′ t w answer
   pub lent : a′ ≡ tickAnswer answer a
   pub word : status ≡ tickStatus answer
+
+-- the check of a file
+abbrev pub fileStatus : FileCheck → ℕ
+fileStatus Files.Sound = 0
+fileStatus (Files.Refused r) = packedOf r
+
+-- writing a file: the bytes written
+abbrev pub writeStatus : Writing → ℕ
+writeStatus (Writes.Written bytes) = 0
+writeStatus (Writes.Refused r) = packedOf r
+
+abbrev pub writeBytes : Writing → ℕ → ℕ
+writeBytes (Writes.Written bytes) old = bytes
+writeBytes (Writes.Refused r) old = old
+
+pub record FileWritten (names counts bodies old new : List ℕ) (written written′ status : ℕ) : Type 0 where
+  pub answer : Writing
+  pub promise : Wrote names counts bodies old new answer
+  pub lent : written′ ≡ writeBytes answer written
+  pub word : status ≡ writeStatus answer
+
+-- a lookup: bits 48-51 have the file, 0 the site's and 1 the fleet's
+abbrev pub fileBits : Whose → ℕ
+fileBits Site = 0
+fileBits Fleet = 2 ^ 48
+
+abbrev pub lookupStatus : Finding → ℕ
+lookupStatus (Finds.Found whose from long) = fileBits whose
+lookupStatus (Finds.Broken whose r) = fileBits whose + packedOf r
+lookupStatus (Finds.Refused r) = packedOf r
+
+-- where the part lies in its file, and its length
+abbrev pub lookupFrom : Finding → ℕ → ℕ
+lookupFrom (Finds.Found whose from long) old = from
+lookupFrom (Finds.Broken whose r) old = old
+lookupFrom (Finds.Refused r) old = old
+
+abbrev pub lookupLong : Finding → ℕ → ℕ
+lookupLong (Finds.Found whose from long) old = long
+lookupLong (Finds.Broken whose r) old = old
+lookupLong (Finds.Refused r) old = old
+
+pub record LookedUp (answer : Finding) (from from′ long long′ status : ℕ) : Type 0 where
+  pub place : from′ ≡ lookupFrom answer from
+  pub bytes : long′ ≡ lookupLong answer long
+  pub word : status ≡ lookupStatus answer

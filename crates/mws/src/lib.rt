@@ -1,17 +1,24 @@
 // The calls for C (include/mws.h). A slice is a pointer and a count of elements; every call answers a status word and never stops its caller.
 use body::BodyCheck;
+use file::FileCheck;
+use file::Finding;
+use file::Whose;
+use file::Writing;
 use plain::Evaluation;
 use plain::Start;
-use tally::Tally;
 use text::Printing;
 use text::Reading;
 use watcher::Needed;
 use watcher::Opening;
 use watcher::Ticking;
 ghost use mathlib.Core.Path.{_≡_};
+ghost use Prim.Native.Nat.{_≤_};
 ghost use Rattle.rules.specs.Limits.{argumentBytes};
 ghost use Rattle.rules.specs.Bits.{onesBelow};
 ghost use Rattle.body.specs.Check.{checkOf};
+ghost use Rattle.file.specs.Check.{checkOf as fileCheckOf};
+ghost use Rattle.file.specs.Lookup.{findingOf};
+ghost use Rattle.mws.specs.Status.{fileStatus, FileWritten, fileBits, LookedUp};
 ghost use Rattle.mws.specs.Status.{checkStatus, TextRead, TextPrinted, PlainDone, RowLatest, RoomTold, StateOpened, StateTicked};
 
 // Checks a body.
@@ -50,6 +57,68 @@ pub extern "C" fn mws_text_print(body: &[u8], text: &mut [u8], written: &mut u64
             0
         }
         Printing::Refused(r) => refusal::packed(r),
+    }
+}
+
+// Checks a pattern file.
+#[no_mangle]
+pub extern "C" fn mws_file_check(file: &[u8]) -> u64
+    ensures { λ r. ⌜ r ≡ fileStatus (fileCheckOf (now (file .entry))) ⌝ }
+{
+    match file::check_file(file) {
+        FileCheck::Sound => 0,
+        FileCheck::Refused(r) => refusal::packed(r),
+    }
+}
+
+// Writes a pattern file of names (8 bytes each), numbers of entries and bodies end to end.
+#[no_mangle]
+pub extern "C" fn mws_file_write(
+    names: &[u8],
+    counts: &[u8],
+    bodies: &[u8],
+    file: &mut [u8],
+    written: &mut u64,
+) -> u64
+    ensures { λ r. ⌜ FileWritten (now (names .entry)) (now (counts .entry)) (now (bodies .entry)) (now (file .entry)) (now (file .exit)) (now (written .entry)) (now (written .exit)) r ⌝ }
+{
+    match file::write_file(names, counts, bodies, file) {
+        Writing::Written(bytes) => {
+            *written = bytes as u64;
+            0
+        }
+        Writing::Refused(r) => refusal::packed(r),
+    }
+}
+
+// Looks a name up in a site file and a fleet file: where the body lies in its file, and its bytes.
+#[no_mangle]
+pub extern "C" fn mws_file_lookup(
+    site: &[u8],
+    fleet: &[u8],
+    name: &[u8],
+    from: &mut u64,
+    long: &mut u64,
+) -> u64
+    ensures { λ r. ⌜ LookedUp (findingOf (now (site .entry)) (now (fleet .entry)) (now (name .entry))) (now (from .entry)) (now (from .exit)) (now (long .entry)) (now (long .exit)) r ⌝ }
+{
+    match file::looked_up(site, fleet, name) {
+        Finding::Found(whose, begin, bytes) => {
+            *from = begin as u64;
+            *long = bytes as u64;
+            file_bits(whose)
+        }
+        Finding::Broken(whose, r) => file_bits(whose) + refusal::packed(r),
+        Finding::Refused(r) => refusal::packed(r),
+    }
+}
+
+fn file_bits(whose: Whose) -> u64
+    ensures { λ r. ⌜ (r ≡ fileBits whose) × (r ≤ 281474976710656) ⌝ }
+{
+    match whose {
+        Whose::Site => 0,
+        Whose::Fleet => 281474976710656,
     }
 }
 

@@ -24,6 +24,11 @@ number-small Full = (omega arith, omega arith)
 number-small Line = (omega arith, omega arith)
 number-small Absent = (omega arith, omega arith)
 
+-- the bits from 48 on are free
+pub packed-small : (r : Refusal) → packedOf r < 2 ^ 48
+unfolding packedOf
+packed-small r = omega (arith, number-small r)
+
 module _ (r : Refusal) (p : placeOf r < 2 ^ 32) (e : entryOf r < 256) where
   pub packed-number : packedOf r % 256 ≡ numberOf r
   unfolding packedOf

@@ -1,0 +1,70 @@
+-- `mws::mws_file_lookup` meets its contract: the finding's place, length and word. Assumes nothing.
+use mathlib.Core.Path.{refl, sym, ap, subst, _∙_}
+use Rattle.refusal.proofs.Packs.{packed-small}
+use native.Mathlib.Omega.{arith}
+use borrow.Author.Needs.{needs}
+use Rattle.mws.proofs.mws_file_lookup.Statement.{statement}
+use Rattle.mws.proofs.mws_file_lookup.Tie as tie
+
+looked-up-requires : tie.Need-looked-up-requires
+looked-up-requires c κs = search needs
+
+enum-known-whose : tie.Need-enum-known-whose
+enum-known-whose c = search needs
+
+file-bits-requires : tie.Need-file-bits-requires
+file-bits-requires c κs = search needs
+
+enum-known-whose-2 : tie.Need-enum-known-whose-2
+enum-known-whose-2 c = search needs
+
+file-bits-requires-2 : tie.Need-file-bits-requires-2
+file-bits-requires-2 c κs = search needs
+
+packed-requires : tie.Need-packed-requires
+packed-requires c κs = search needs
+
+add-result : tie.Need-add-result
+add-result c =
+    omega (arith, c .before .file-bits2 .ensures .1, c .packed .ensures, packed-small (c .before .before .before .whose2 .given .0 .1 .0))
+
+enum-known-r : tie.Need-enum-known-r
+enum-known-r c = search needs
+
+packed-requires-2 : tie.Need-packed-requires-2
+packed-requires-2 c κs = search needs
+
+returns : tie.Need-returns
+returns c =
+    let w = c .before .before in
+    let a = w .before .before in
+    rw (sym (a .looked-up .ensures) ∙ w .whose .given .1) (record { place = refl; bytes = refl; word = c .file-bits .ensures .0 })
+
+returns-2 : tie.Need-returns-2
+returns-2 c =
+    let w = c .before .before .before in
+    let a = w .before .before in
+    rw (sym (a .looked-up .ensures) ∙ w .whose2 .given .1) (record { place = refl; bytes = refl; word = omega (arith, c .before .file-bits2 .ensures .0, c .packed .ensures) })
+
+returns-3 : tie.Need-returns-3
+returns-3 c =
+    let w = c .before .before in
+    let a = w .before .before in
+    rw (sym (a .looked-up .ensures) ∙ w .r .given .1) (record { place = refl; bytes = refl; word = c .packed2 .ensures })
+
+pub mws-file-lookup-spec : {M : Type 1} → statement M
+mws-file-lookup-spec =
+    tie.close
+    (tie.spec
+    looked-up-requires
+    enum-known-whose
+    file-bits-requires
+    enum-known-whose-2
+    file-bits-requires-2
+    packed-requires
+    add-result
+    enum-known-r
+    packed-requires-2
+    returns
+    returns-2
+    returns-3)
