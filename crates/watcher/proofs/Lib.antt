@@ -14,6 +14,7 @@ pub mod Runs
 pub mod Places
 pub mod Calls
 pub mod Ways
+pub mod Feeds
 pub mod Walking
 pub mod Segments
 pub mod Pairing

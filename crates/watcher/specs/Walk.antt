@@ -11,6 +11,7 @@ use Rattle.rules.specs.declared.Op.{Op}
 use Rattle.rules.specs.Bits.{bit}
 use Rattle.rules.specs.Decisions.{pick}
 use Rattle.rules.specs.Limits.{argumentBytes, mostEntries, ticks}
+use Rattle.rules.specs.History.{Tick}
 use Rattle.body.specs.declared.Entry.{Entry}
 use Rattle.body.specs.Entry.{entryOf, entriesBy, entries}
 use Rattle.body.specs.Check.{scan}
@@ -133,3 +134,12 @@ answerOf t w s = lastAnswer (ticked t w s .0)
 -- the words after the tick: the cells as they become, and the next tick allowed
 unfoldable pub wordsAfter : ℕ → ℕ → List ℕ → List ℕ
 wordsAfter t w s = set (take (2 + getD s 0 0) s ++ (ticked t w s .1 .0 ++ ticked t w s .1 .1)) 1 (t + 1)
+
+-- ticks one after the other: their answers, and the words after them
+unfoldable pub answersFed : List Tick → List ℕ → List ℕ
+answersFed [] s = []
+answersFed (k ∷ h) s = answerOf (k .0) (k .1) s ∷ answersFed h (wordsAfter (k .0) (k .1) s)
+
+unfoldable pub wordsFed : List Tick → List ℕ → List ℕ
+wordsFed [] s = s
+wordsFed (k ∷ h) s = wordsFed h (wordsAfter (k .0) (k .1) s)
