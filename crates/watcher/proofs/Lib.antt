@@ -24,3 +24,4 @@ pub mod Opens
 pub mod Puts
 pub mod Agrees
 pub mod Theorem
+pub mod Fed
