@@ -4,4 +4,6 @@ pub mod Walk
 pub mod Form
 pub mod Feed
 pub mod Step
+pub mod Set
+pub mod Sets
 pub mod Claim

@@ -3,7 +3,7 @@
 use mathlib.Core.Bool.{Bool, true, false, cond}
 use mathlib.Core.List.{List, [], _∷_, _++_}
 use mathlib.Core.Option.{Option, none, some}
-use Prim.Native.Nat.{ℕ, suc, _+_, _/_, _%_}
+use Prim.Native.Nat.{ℕ, suc, _+_, _-_, _/_, _%_}
 use native.Mathlib.Decide.{decLe, ℕ-discrete}
 use lib.Dec.{leb}
 use lib.ListN.{length, getD, take, drop, set, replicate}
@@ -86,6 +86,15 @@ formed s =
     cond (leb 1 (getD s 0 0)) (cond (leb (getD s 0 0) mostEntries) (cond (leb (2 + getD s 0 0) (length s))
     (cond (isNone (scan (entriesBy (entryIn s) 0 (getD s 0 0)) 0 0)) (cond (leb (getD s 1 0) ticks)
     (isSome (judged s)) false) false) false) false) false
+
+-- where the words of a state end, of n words in all, by those beyond them: 0 for none
+abbrev pub endBy : ℕ → Option (List ℕ) → ℕ
+endBy n none = 0
+endBy n (some l) = n - length l
+
+-- the number of a state's words, 0 if it is not in form
+unfoldable pub extent : List ℕ → ℕ
+extent s = cond (formed s) (endBy (length s) (judged s)) 0
 
 -- on the stack: an answer, and the possible starts, as many as p
 abbrev pub Value : Type 0

@@ -1,5 +1,6 @@
 // The watcher: its state as words in a lent slice, opened from a body and moved by ticks.
 mod form;
+pub mod set;
 mod walk;
 
 use body::BodyCheck;
@@ -79,7 +80,7 @@ pub fn tick(state: &mut [u64], t: u64, events: u32) -> Ticking
     if 4294967295 < t {
         return Ticking::Refused(Refusal::Range);
     }
-    if form::in_form(state) {
+    if 0 < form::extent(state) {
         if t < state[1] {
             return Ticking::Refused(Refusal::Late(0));
         }
@@ -104,7 +105,7 @@ pub fn feed(state: &mut [u64], ticks: &[u64], events: &[u32], answers: &mut [u64
     if answers.len() < ticks.len() {
         return Feeding::Refused(Refusal::Room(ticks.len()));
     }
-    if form::in_form(state) {
+    if 0 < form::extent(state) {
         match first_fault(ticks, state[1]) {
             Feeding::Refused(r) => {
                 return Feeding::Refused(r);

@@ -5,7 +5,7 @@ use native.Mathlib.Omega.{arith}
 use Rattle.watcher.specs.Walk.{formed}
 use Rattle.watcher.specs.Feed.{uneven, short}
 use Rattle.watcher.specs.Step.{FeedReady}
-use Rattle.watcher.proofs.Judges.{formed-judged}
+use Rattle.watcher.proofs.Judges.{formed-judged, extent-formed, extent-broken}
 use Rattle.watcher.proofs.Feeds.{fed-all, fed-broken, fed-faulty}
 use borrow.Author.Needs.{needs}
 use Rattle.watcher.proofs.feed.Statement.{statement}
@@ -13,7 +13,7 @@ use Rattle.watcher.proofs.feed.Tie as tie
 
 -- the state is in form past the test
 form : (c : tie.Then3) → formed (c .before .before .before .before .before .before .before .before .before .args .state .now) ≡ true
-form c = sym (c .before .in-form .ensures) ∙ c .if3 .taken
+form c = extent-formed _ (omega arith)
 
 ready : (c : tie.After-enum-told)
     → let a = c .before .before .before .before .before .before .before .before .before .before .before .before .before .args in
@@ -28,8 +28,8 @@ returns c = (uneven (λ e. omega arith) refl, refl, refl)
 returns-2 : tie.Need-returns-2
 returns-2 c = (short (omega arith) (omega arith) refl, refl, refl)
 
-in-form-requires : tie.Need-in-form-requires
-in-form-requires c κs = search needs
+extent-requires : tie.Need-extent-requires
+extent-requires c κs = search needs
 
 slice-read-first-fault : tie.Need-slice-read-first-fault
 slice-read-first-fault c = omega (arith, formed-judged _ (form (c .before)) .long)
@@ -69,7 +69,7 @@ same-length-4 : tie.Need-same-length-4
 same-length-4 c = search needs
 
 returns-5 : tie.Need-returns-5
-returns-5 c = (fed-broken _ _ _ _ (omega arith) (omega arith) (sym (c .before .in-form .ensures) ∙ c .if3 .left), refl, refl)
+returns-5 c = (fed-broken _ _ _ _ (omega arith) (omega arith) (extent-broken _ (omega arith)), refl, refl)
 
 pub feed-spec : {M : Type 1} → statement M
 feed-spec =
@@ -77,7 +77,7 @@ feed-spec =
     (tie.spec
     returns
     returns-2
-    in-form-requires
+    extent-requires
     slice-read-first-fault
     first-fault-requires
     enum-known-r
