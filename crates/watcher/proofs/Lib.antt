@@ -25,3 +25,6 @@ pub mod Puts
 pub mod Agrees
 pub mod Theorem
 pub mod Fed
+pub mod Parts
+pub mod SetJudges
+pub mod SetSteps

@@ -1,103 +1,111 @@
+-- `watcher::set::judge` meets its contract: the invariant is `SetJudging`, the measure the states left. Assumes nothing.
+use mathlib.Core.Path.{_≡_, refl, sym, ap, _∙_}
+use Prim.Native.Nat.{_+_, _-_, _≤_, _<_}
+use native.Mathlib.Omega.{arith}
+use lib.ListN.{length, getD, drop}
+use borrow.Author.Needs.{needs}
+use Rattle.watcher.specs.Walk.{extent}
+use Rattle.watcher.proofs.SetJudges.{SetJudging, set-judging-start, set-judging-late, set-judging-end, set-judging-broken}
+use Rattle.watcher.proofs.SetJudges.{set-judging-within, set-judging-two, set-judging-more, all-from}
 use Rattle.watcher.proofs.set.judge.Statement.{statement}
 use Rattle.watcher.proofs.set.judge.Tie as tie
-use Rattle.watcher.proofs.set.judge.Reads as reads
-use Rattle.watcher.proofs.set.judge.Lts as lts
-use Rattle.watcher.proofs.form.extent.Reads as extent-reads
-use Rattle.watcher.proofs.set.late_after.Reads as late-after-reads
 
 abbrev Inv-loop : tie.InvT-loop
-Inv-loop states n t ends₀ late₀ at₀ i₀ ends late at i = ?
+Inv-loop states n t ends₀ late₀ at₀ i₀ ends late at i = SetJudging n states t ends i at late
 
 abbrev μ-loop : tie.MeasureT-loop
-μ-loop states n t ends₀ late₀ at₀ i₀ ends late at i = ?
+μ-loop states n t ends₀ late₀ at₀ i₀ ends late at i = n - i
 
--- src/set.rt:50:5
+-- what the judge of state i says
+words : (c : tie.After-extent Inv-loop μ-loop)
+    → let k = c .before .before .before in
+    c .extent .result ≡ extent (drop (k .loop .at) (k .before .before .before .args .states .now))
+words c = let k = c .before .before .before in c .extent .ensures ∙ ap extent (all-from (k .before .before .before .args .states .now) (k .loop .at))
+
+some : (c : tie.Else1 Inv-loop μ-loop)
+    → let k = c .before .before .before .before in
+    0 < extent (drop (k .loop .at) (k .before .before .before .args .states .now))
+some c = omega (arith, words (c .before))
+
 loop-holds : tie.Need-loop-holds Inv-loop μ-loop
-loop-holds c = ?
+loop-holds c = set-judging-start _ _ _ _ (c .before .before .pre)
 
--- src/set.rt:51:41
 mul-extent : tie.Need-mul-extent Inv-loop μ-loop
-mul-extent c = ?
+mul-extent c = search needs
 
--- src/set.rt:51:41
 sub-extent : tie.Need-sub-extent Inv-loop μ-loop
-sub-extent c = ?
+sub-extent c = search needs
 
--- src/set.rt:51:41
 part-extent-start : tie.Need-part-extent-start Inv-loop μ-loop
-part-extent-start c = ?
+part-extent-start c = search needs
 
--- src/set.rt:51:41
 part-extent-end : tie.Need-part-extent-end Inv-loop μ-loop
-part-extent-end c = ?
+part-extent-end c = search needs
 
--- src/set.rt:51:13
 extent-requires : tie.Need-extent-requires Inv-loop μ-loop
-extent-requires c κs = ?
+extent-requires c κs = search needs
 
--- src/set.rt:53:13
 same-length : tie.Need-same-length Inv-loop μ-loop
-same-length c = ?
+same-length c = search needs
 
--- src/set.rt:53:13
 returns : tie.Need-returns Inv-loop μ-loop
-returns c = ?
+returns c =
+    let k = c .before .before .before .before in
+    set-judging-broken (k .loop .inv) (c .before .before .before .loop-test .taken) (omega (arith, words (c .before)))
 
--- src/set.rt:55:46
 add-late-after : tie.Need-add-late-after Inv-loop μ-loop
-add-late-after c = ?
+add-late-after c =
+    let j = c .before .before .before in
+    omega (arith, set-judging-two (j .before .loop .inv) (j .loop-test .taken) (j .before .before .before .before .pre .few) (some c))
 
--- src/set.rt:55:39
 mul-late-after : tie.Need-mul-late-after Inv-loop μ-loop
-mul-late-after c = ?
+mul-late-after c = search needs
 
--- src/set.rt:55:39
 shared-slice-read-late-after : tie.Need-shared-slice-read-late-after Inv-loop μ-loop
-shared-slice-read-late-after c = ?
+shared-slice-read-late-after c =
+    let e = c .before in
+    let j = e .before .before .before in
+    set-judging-two (j .before .loop .inv) (j .loop-test .taken) (j .before .before .before .before .pre .few) (some e)
 
--- src/set.rt:55:9
 late-after-requires : tie.Need-late-after-requires Inv-loop μ-loop
-late-after-requires c κs = ?
+late-after-requires c κs = search needs
 
--- src/set.rt:56:9
 add-at : tie.Need-add-at Inv-loop μ-loop
-add-at c = ?
+add-at c =
+    let e = c .before .before in
+    let j = e .before .before .before in
+    omega (arith, words (e .before), set-judging-within (j .before .loop .inv) (j .loop-test .taken) (j .before .before .before .before .pre .few) (some e))
 
--- src/set.rt:57:9
 add-i : tie.Need-add-i Inv-loop μ-loop
-add-i c = ?
+add-i c = search needs
 
--- src/set.rt:58:9
 mul-ends : tie.Need-mul-ends Inv-loop μ-loop
-mul-ends c = ?
+mul-ends c = search needs
 
--- src/set.rt:58:9
 slice-write-ends : tie.Need-slice-write-ends Inv-loop μ-loop
-slice-write-ends c = ?
+slice-write-ends c = search needs
 
--- src/set.rt:50:5
 loop-less : tie.Need-loop-less Inv-loop μ-loop
-loop-less c = ?
+loop-less c = search needs
 
--- src/set.rt:50:5
 loop-again : tie.Need-loop-again Inv-loop μ-loop
-loop-again c = ?
+loop-again c =
+    let e = c .before .before in
+    let j = e .before .before .before in
+    set-judging-more (j .before .loop .inv) (j .loop-test .taken) (j .before .before .before .before .pre .few) (some e)
+    _ (ap (λ z. j .before .loop .at + z) (words (e .before))) (c .late-after .result) (c .late-after .ensures)
 
--- src/set.rt:61:9
 same-length-2 : tie.Need-same-length-2 Inv-loop μ-loop
-same-length-2 c = ?
+same-length-2 c = search needs
 
--- src/set.rt:61:9
 returns-2 : tie.Need-returns-2 Inv-loop μ-loop
-returns-2 c = ?
+returns-2 c = set-judging-late (c .before .before .loop .inv) (c .before .loop-test .left) (c .if2 .taken)
 
--- src/set.rt:43:1
 same-length-3 : tie.Need-same-length-3 Inv-loop μ-loop
-same-length-3 c = ?
+same-length-3 c = search needs
 
--- src/set.rt:43:1
 returns-3 : tie.Need-returns-3 Inv-loop μ-loop
-returns-3 c = ?
+returns-3 c = set-judging-end (c .before .before .loop .inv) (c .before .loop-test .left) (c .if2 .left)
 
 pub judge-spec : {M : Type 1} → statement M
 judge-spec =

@@ -1,90 +1,91 @@
+-- `watcher::set::step_all` meets its contract: the invariant is `SetStepping`, the measure the states left. Assumes nothing.
+use Prim.Native.Nat.{_-_}
+use native.Mathlib.Omega.{arith}
+use lib.ListN.{length}
+use borrow.Author.Needs.{needs}
+use Rattle.watcher.proofs.SetSteps.{SetStepping, set-stepping-start, set-stepping-end, set-stepping-ends, set-stepping-within}
+use Rattle.watcher.proofs.SetSteps.{set-stepping-ready, set-stepping-more}
 use Rattle.watcher.proofs.set.step_all.Statement.{statement}
 use Rattle.watcher.proofs.set.step_all.Tie as tie
-use Rattle.watcher.proofs.set.step_all.Reads as reads
-use Rattle.watcher.proofs.set.step_all.Lts as lts
-use Rattle.watcher.proofs.walk.step.Reads as step-reads
 
 abbrev Inv-loop : tie.InvT-loop
-Inv-loop states₀ n t events ends answers₀ i₀ states answers i = ?
+Inv-loop states₀ n t events ends answers₀ i₀ states answers i = SetStepping n states₀ t events ends answers₀ states answers i
 
 abbrev μ-loop : tie.MeasureT-loop
-μ-loop states₀ n t events ends answers₀ i₀ states answers i = ?
+μ-loop states₀ n t events ends answers₀ i₀ states answers i = n - i
 
--- src/set.rt:85:5
 loop-holds : tie.Need-loop-holds Inv-loop μ-loop
-loop-holds c = ?
+loop-holds c = set-stepping-start _ (c .before .before .before .pre)
 
--- src/set.rt:86:18
 mul-at : tie.Need-mul-at Inv-loop μ-loop
-mul-at c = ?
+mul-at c = search needs
 
--- src/set.rt:86:18
 shared-slice-read-at : tie.Need-shared-slice-read-at Inv-loop μ-loop
-shared-slice-read-at c = ?
+shared-slice-read-at c = search needs
 
--- src/set.rt:87:24
 add-end : tie.Need-add-end Inv-loop μ-loop
-add-end c = ?
+add-end c = search needs
 
--- src/set.rt:87:19
 mul-end : tie.Need-mul-end Inv-loop μ-loop
-mul-end c = ?
+mul-end c = search needs
 
--- src/set.rt:87:19
 shared-slice-read-end : tie.Need-shared-slice-read-end Inv-loop μ-loop
-shared-slice-read-end c = ?
+shared-slice-read-end c = search needs
 
--- src/set.rt:88:40
 mul-step : tie.Need-mul-step Inv-loop μ-loop
-mul-step c = ?
+mul-step c = search needs
 
--- src/set.rt:88:40
 sub-step : tie.Need-sub-step Inv-loop μ-loop
-sub-step c = ?
+sub-step c =
+    let j = c .before .before in
+    let r = j .before .before .before .before .before .pre in
+    set-stepping-ends r (j .before .loop .inv) (j .loop-test .taken)
 
--- src/set.rt:88:40
 part-step-start : tie.Need-part-step-start Inv-loop μ-loop
-part-step-start c = ?
+part-step-start c =
+    let j = c .before .before in
+    let r = j .before .before .before .before .before .pre in
+    set-stepping-ends r (j .before .loop .inv) (j .loop-test .taken)
 
--- src/set.rt:88:40
 part-step-end : tie.Need-part-step-end Inv-loop μ-loop
-part-step-end c = ?
+part-step-end c =
+    let j = c .before .before in
+    let r = j .before .before .before .before .before .pre in
+    set-stepping-within r (j .before .loop .inv) (j .loop-test .taken)
 
--- src/set.rt:88:22
 step-requires : tie.Need-step-requires Inv-loop μ-loop
-step-requires c κs = ?
+step-requires c κs =
+    let j = c .before .before .before in
+    let r = j .before .before .before .before .before .pre in
+    set-stepping-ready r (j .before .loop .inv) (j .loop-test .taken)
 
--- src/set.rt:88:9
 mul-answers : tie.Need-mul-answers Inv-loop μ-loop
-mul-answers c = ?
+mul-answers c = search needs
 
--- src/set.rt:88:9
 slice-write-answers : tie.Need-slice-write-answers Inv-loop μ-loop
-slice-write-answers c = ?
+slice-write-answers c = search needs
 
--- src/set.rt:89:9
 add-i : tie.Need-add-i Inv-loop μ-loop
-add-i c = ?
+add-i c = search needs
 
--- src/set.rt:85:5
 loop-less : tie.Need-loop-less Inv-loop μ-loop
-loop-less c = ?
+loop-less c = search needs
 
--- src/set.rt:85:5
 loop-again : tie.Need-loop-again Inv-loop μ-loop
-loop-again c = ?
+loop-again c =
+    let p = c .before .before in
+    let j = p .before .before .before .before in
+    let r = j .before .before .before .before .before .pre in
+    set-stepping-more r (j .before .loop .inv) (j .loop-test .taken) (p .step .last .0) (p .step .result) (p .step .ensures) (p .step .kept .0)
 
--- src/set.rt:80:1
 same-length : tie.Need-same-length Inv-loop μ-loop
-same-length c = ?
+same-length c = search needs
 
--- src/set.rt:80:1
 same-length-2 : tie.Need-same-length-2 Inv-loop μ-loop
-same-length-2 c = ?
+same-length-2 c = search needs
 
--- src/set.rt:80:1
 returns : tie.Need-returns Inv-loop μ-loop
-returns c = ?
+returns c = set-stepping-end (c .before .before .before .before .before .pre) (c .before .loop .inv) (c .loop-test .left)
 
 pub step-all-spec : {M : Type 1} → statement M
 step-all-spec =
