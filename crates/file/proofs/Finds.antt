@@ -1,0 +1,86 @@
+-- A turn of the search for a name in a sound file, and each way out. Assumes nothing.
+use Prim.Native.Nat.{ℕ, _+_, _-_, _*_, _≤_, _<_}
+use mathlib.Core.Path.{_≡_, refl, sym, ap₂, _∙_}
+use mathlib.Core.Bool.{true, false, cond}
+use mathlib.Core.List.{List, [], _∷_}
+use native.Mathlib.Nat.{sub-zero}
+use native.Mathlib.Omega.{arith}
+use lib.ListN.{length, getD, take, drop}
+use lib.Seq.{drop-drop, getD-drop}
+use Rattle.refusal.specs.declared.Refusal.{Refusal}
+use Rattle.refusal.specs.declared.Refusal.the-variants.{Absent}
+use Rattle.body.specs.Bytes.{valueAt}
+use Rattle.body.proofs.Scan.{left-suc, left-zero}
+use Rattle.file.specs.declared.FileCheck.the-variants as Checks
+use Rattle.file.specs.declared.Whose.the-variants.{Site, Fleet}
+use Rattle.file.specs.declared.Finding.the-variants.{Broken, Refused}
+use Rattle.file.specs.declared.Place.{Place}
+use Rattle.file.specs.declared.Place.the-variants.{At, Nowhere}
+use Rattle.file.specs.Contents.{bodyBytes, nameBytes, contentsBytes}
+use Rattle.file.specs.Check.{checkOf}
+use Rattle.file.specs.Lookup.{same, seek, placed, inFile, findingOf}
+use Rattle.file.proofs.Turns.{rest-part}
+use Rattle.file.proofs.Checks.{rest-sound}
+
+-- the name is not among the first i entries of a file's contents
+pub record Sought (file name : List ℕ) (count i at : ℕ) : Type 0 where
+  pub held : 1 + contentsBytes * count ≤ length file
+  pub upto : i ≤ count
+  pub place : at ≡ 1 + contentsBytes * i
+  pub rest : seek (drop at file) name (count - i) ≡ placed file name
+
+-- a sound file has a count
+pub sound-long : (file : List ℕ) → checkOf file ≡ Checks.Sound → 1 + contentsBytes * getD file 0 0 ≤ length file
+unfolding checkOf
+sound-long [] p = let z : _≡_ {A = ℕ} 0 1 = cc in absurd (omega arith)
+sound-long (x ∷ f) p = omega (arith, rest-sound x f p .held)
+
+pub sought-none : (file name : List ℕ) (count : ℕ) → count ≡ getD file 0 0 → checkOf file ≡ Checks.Sound → Sought file name count 0 1
+sought-none [] name count e p = let z = sound-long [] p in absurd (omega arith)
+sought-none (x ∷ f) name count e p = record {
+  held = omega (arith, sound-long (x ∷ f) p);
+  upto = omega arith;
+  place = omega arith;
+  rest = rw (sub-zero count, e) refl;
+}
+
+module _ {file name : List ℕ} {count i at : ℕ} (k : Sought file name count i at) (h : i < count) where
+  seek-turn : seek (drop at file) name (count - i)
+      ≡ cond (same (take (at + nameBytes - at) (drop at file)) name)
+      (At (valueAt 2 (take (length file - at) (drop at file)) 8) (bodyBytes (getD file (at + 10) 0)))
+      (seek (drop (at + contentsBytes) file) name (count - (i + 1)))
+  unfolding seek
+  seek-turn =
+      let long : at + nameBytes - at ≡ nameBytes = omega arith in
+      rw (left-suc count i h, long, rest-part file at, getD-drop at file 10 0, drop-drop contentsBytes at file)
+
+  pub sought-here : {from n : ℕ} → same (take (at + nameBytes - at) (drop at file)) name ≡ true
+      → from ≡ valueAt 2 (take (length file - at) (drop at file)) 8 → n ≡ getD file (at + 10) 0 → At from (bodyBytes n) ≡ placed file name
+  sought-here p q r = rw (q, r) (rw (seek-turn, p) at (k .rest))
+
+  pub sought-more : same (take (at + nameBytes - at) (drop at file)) name ≡ false → Sought file name count (i + 1) (at + contentsBytes)
+  sought-more p = record { held = k .held; upto = omega arith; place = omega (arith, k .place); rest = rw (seek-turn, p) at (k .rest) }
+
+pub sought-all : {file name : List ℕ} {count i at : ℕ} → Sought file name count i at → count ≤ i → Nowhere ≡ placed file name
+unfolding seek
+sought-all {count = count} {i = i} k h = rw (left-zero count i h) at (k .rest)
+
+-- the answer of a lookup, one law for each way out
+module _ (site fleet name : List ℕ) where
+  pub finding-site-broken : (r : Refusal) → checkOf site ≡ Checks.Refused r → Broken Site r ≡ findingOf site fleet name
+  unfolding findingOf
+  finding-site-broken r p = rw p
+
+  module _ (p : checkOf site ≡ Checks.Sound) where
+    pub finding-fleet-broken : (r : Refusal) → checkOf fleet ≡ Checks.Refused r → Broken Fleet r ≡ findingOf site fleet name
+    unfolding findingOf
+    finding-fleet-broken r q = rw (p, q)
+
+    module _ (q : checkOf fleet ≡ Checks.Sound) where
+      pub finding-places : inFile (placed site name) Site (inFile (placed fleet name) Fleet (Refused Absent)) ≡ findingOf site fleet name
+      unfolding findingOf
+      finding-places = rw (p, q)
+
+      pub finding-by : (a b : Place) → placed site name ≡ a → placed fleet name ≡ b
+          → inFile a Site (inFile b Fleet (Refused Absent)) ≡ findingOf site fleet name
+      finding-by a b s t = ap₂ (λ (x y : Place). inFile x Site (inFile y Fleet (Refused Absent))) (sym s) (sym t) ∙ finding-places

@@ -1,0 +1,10 @@
+pub mod Names
+pub mod Turns
+pub mod Checks
+pub mod Writes
+pub mod Finds
+pub mod Files
+pub mod Order
+pub mod Found
+pub mod Smallest
+pub mod Theorem

@@ -1,0 +1,76 @@
+-- Pattern files: what is accepted is exactly what the writer would write, in one way; a lookup finds each name where it stands, and only bodies.
+-- A file's parts are read from it, and its names rise strictly. Assumes nothing.
+use Prim.Native.Nat.{ℕ, _<_}
+use mathlib.Core.Path.{_≡_, refl, sym, ap, _∙_}
+use mathlib.Core.List.{List}
+use lib.ListN.{length, getD}
+use Rattle.file.specs.declared.FileCheck.the-variants.{Sound}
+use Rattle.file.specs.declared.Place.the-variants.{At, Nowhere}
+use Rattle.file.specs.Contents.{bodyBytes, bodiesAt, nameOf}
+use Rattle.file.specs.Check.{checkOf}
+use Rattle.file.specs.Lookup.{placed}
+use Rattle.file.specs.Claim.{PartsOf, AcceptedExactly, OneWay, OneName, WrittenAccepted, FoundBody, FoundWithin, FoundNamed}
+use Rattle.file.specs.Claim.{bodyAt, Lacks, FoundInSite, FoundInFleet, AbsentFromBoth}
+use Rattle.file.proofs.Checks.{parts-sound}
+use Rattle.file.proofs.Files.{near, written-sound, accepted-parts, parts-read}
+use Rattle.file.proofs.Order.{names-differ, name-once, seek-nowhere, seek-there}
+use Rattle.file.proofs.Finds.{finding-by}
+use Rattle.file.proofs.Found.{finding-found}
+
+pub written-accepted : WrittenAccepted
+written-accepted = written-sound
+
+parts-accepted : (f names counts bodies : List ℕ) → PartsOf f names counts bodies → checkOf f ≡ Sound
+parts-accepted f names counts bodies k = ap checkOf (k .same) ∙ written-sound names counts bodies (k .sound)
+
+pub accepted-exactly : AcceptedExactly
+accepted-exactly f w = (accepted-parts f w, λ k. parts-accepted f (k .names) (k .counts) (k .bodies) (k .parts))
+
+pub one-way : OneWay
+one-way f names counts bodies names′ counts′ bodies′ k k′ =
+    let r = parts-read f names counts bodies k in
+    let r′ = parts-read f names′ counts′ bodies′ k′ in
+    (r .0 ∙ sym (r′ .0), r .1 ∙ sym (r′ .1), r .2 ∙ sym (r′ .2))
+
+pub one-name : OneName
+one-name names counts bodies p = name-once names counts (parts-sound names counts bodies p .kept)
+
+pub found-body : FoundBody
+found-body site fleet name whose from long p = finding-found site fleet name whose from long p .valid
+
+pub found-within : FoundWithin
+found-within site fleet name whose from long p = finding-found site fleet name whose from long p .within
+
+pub found-named : FoundNamed
+found-named site fleet name whose from long p =
+    let b = finding-found site fleet name whose from long p in
+    (b .counted, b .well)
+
+-- where a search in a file finds a name, by the file's parts
+module _ (f names counts bodies : List ℕ) (k : PartsOf f names counts bodies) where
+  placed-there : (i : ℕ) → i < length counts → placed f (nameOf names i) ≡ At (bodyAt counts i) (bodyBytes (getD counts i 0))
+  placed-there i h =
+      let s = parts-sound names counts bodies (k .sound) in
+      ap (λ (g : List ℕ). placed g (nameOf names i)) (k .same)
+      ∙ seek-there bodies (nameOf names i) names counts (bodiesAt (length counts)) i (s .full) (near names counts bodies s) h
+      (λ j l e. names-differ names counts (s .kept) j i l h e) refl
+
+  placed-nowhere : (name : List ℕ) → Lacks names counts name → placed f name ≡ Nowhere
+  placed-nowhere name l =
+      let s = parts-sound names counts bodies (k .sound) in
+      ap (λ (g : List ℕ). placed g name) (k .same)
+      ∙ seek-nowhere bodies name names counts (bodiesAt (length counts)) (s .full) (near names counts bodies s) l
+
+pub found-in-site : FoundInSite
+found-in-site site fleet names counts bodies k q i h =
+    sym (finding-by site fleet (nameOf names i) (parts-accepted site names counts bodies k) q _ _ (placed-there site names counts bodies k i h) refl)
+
+pub found-in-fleet : FoundInFleet
+found-in-fleet site fleet names counts bodies names′ counts′ bodies′ k k′ i h l =
+    sym (finding-by site fleet (nameOf names′ i) (parts-accepted site names counts bodies k) (parts-accepted fleet names′ counts′ bodies′ k′) _ _
+    (placed-nowhere site names counts bodies k (nameOf names′ i) l) (placed-there fleet names′ counts′ bodies′ k′ i h))
+
+pub absent-from-both : AbsentFromBoth
+absent-from-both site fleet name names counts bodies names′ counts′ bodies′ k k′ l l′ =
+    sym (finding-by site fleet name (parts-accepted site names counts bodies k) (parts-accepted fleet names′ counts′ bodies′ k′) _ _
+    (placed-nowhere site names counts bodies k name l) (placed-nowhere fleet names′ counts′ bodies′ k′ name l′))

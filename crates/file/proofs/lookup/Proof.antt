@@ -1,0 +1,169 @@
+-- `file::lookup` meets its contract: what was found lies in its file, so the part that is lent is the body. Assumes nothing.
+use mathlib.Core.Path.{sym, ap, _∙_}
+use native.Mathlib.Omega.{arith}
+use Rattle.file.specs.declared.Whose.{Whose}
+use Rattle.file.specs.declared.Whose.the-variants.{Site, Fleet}
+use Rattle.file.specs.declared.Finding.the-variants.{Found}
+use Rattle.file.proofs.Found.{finding-found, part-found, part-broken, part-refused}
+use borrow.Author.Needs.{needs}
+use Rattle.file.proofs.lookup.Statement.{statement}
+use Rattle.file.proofs.lookup.Tie as tie
+
+looked-up-requires : tie.Need-looked-up-requires
+looked-up-requires c κs = search needs
+
+enum-known-whose : tie.Need-enum-known-whose
+enum-known-whose c = search needs
+
+enum-told : tie.Need-enum-told
+enum-told c = search needs
+
+add-result : tie.Need-add-result
+add-result c =
+    let t = c in
+    let w = t .before .before .before in
+    let l = w .before .before in
+    let a = l .before .before .before .before .args in
+    let from = w .whose .given .0 .1 .0 in
+    let long = w .whose .given .0 .1 .1 .0 in
+    omega (
+      arith,
+      finding-found (a .site .now) (a .fleet .now) (a .name .now) Site from long
+          (sym (l .looked-up .ensures) ∙ w .whose .given .1 ∙ ap (λ (x : Whose). Found x from long) (t .enum-told .given .1)) .within,
+    )
+
+sub-result : tie.Need-sub-result
+sub-result c = search needs
+
+part-result-start : tie.Need-part-result-start
+part-result-start c = search needs
+
+part-result-end : tie.Need-part-result-end
+part-result-end c =
+    let t = c in
+    let w = t .before .before .before in
+    let l = w .before .before in
+    let a = l .before .before .before .before .args in
+    let from = w .whose .given .0 .1 .0 in
+    let long = w .whose .given .0 .1 .1 .0 in
+    finding-found (a .site .now) (a .fleet .now) (a .name .now) Site from long
+    (sym (l .looked-up .ensures) ∙ w .whose .given .1 ∙ ap (λ (x : Whose). Found x from long) (t .enum-told .given .1)) .within
+
+enum-told-2 : tie.Need-enum-told-2
+enum-told-2 c = search needs
+
+add-result-2 : tie.Need-add-result-2
+add-result-2 c =
+    let t = c in
+    let w = t .before .before .before in
+    let l = w .before .before in
+    let a = l .before .before .before .before .args in
+    let from = w .whose .given .0 .1 .0 in
+    let long = w .whose .given .0 .1 .1 .0 in
+    omega (
+      arith,
+      finding-found (a .site .now) (a .fleet .now) (a .name .now) Fleet from long
+          (sym (l .looked-up .ensures) ∙ w .whose .given .1 ∙ ap (λ (x : Whose). Found x from long) (t .enum-told2 .given .1)) .within,
+    )
+
+sub-result-2 : tie.Need-sub-result-2
+sub-result-2 c = search needs
+
+part-result-start-2 : tie.Need-part-result-start-2
+part-result-start-2 c = search needs
+
+part-result-end-2 : tie.Need-part-result-end-2
+part-result-end-2 c =
+    let t = c in
+    let w = t .before .before .before in
+    let l = w .before .before in
+    let a = l .before .before .before .before .args in
+    let from = w .whose .given .0 .1 .0 in
+    let long = w .whose .given .0 .1 .1 .0 in
+    finding-found (a .site .now) (a .fleet .now) (a .name .now) Fleet from long
+    (sym (l .looked-up .ensures) ∙ w .whose .given .1 ∙ ap (λ (x : Whose). Found x from long) (t .enum-told2 .given .1)) .within
+
+enum-told-3 : tie.Need-enum-told-3
+enum-told-3 c = search needs
+
+sub-result-3 : tie.Need-sub-result-3
+sub-result-3 c = search needs
+
+part-result-start-3 : tie.Need-part-result-start-3
+part-result-start-3 c = search needs
+
+part-result-end-3 : tie.Need-part-result-end-3
+part-result-end-3 c = search needs
+
+enum-told-4 : tie.Need-enum-told-4
+enum-told-4 c = search needs
+
+sub-result-4 : tie.Need-sub-result-4
+sub-result-4 c = search needs
+
+part-result-start-4 : tie.Need-part-result-start-4
+part-result-start-4 c = search needs
+
+part-result-end-4 : tie.Need-part-result-end-4
+part-result-end-4 c = search needs
+
+returns : tie.Need-returns
+returns c =
+    let t = c .before in
+    let w = t .before .before .before in
+    let l = w .before .before in
+    let a = l .before .before .before .before .args in
+    let from = w .whose .given .0 .1 .0 in
+    let long = w .whose .given .0 .1 .1 .0 in
+    part-found (a .site .now) (a .fleet .now) (a .name .now) Site from long
+    (sym (l .looked-up .ensures) ∙ w .whose .given .1 ∙ ap (λ (x : Whose). Found x from long) (t .enum-told .given .1))
+
+returns-2 : tie.Need-returns-2
+returns-2 c =
+    let t = c .before in
+    let w = t .before .before .before in
+    let l = w .before .before in
+    let a = l .before .before .before .before .args in
+    let from = w .whose .given .0 .1 .0 in
+    let long = w .whose .given .0 .1 .1 .0 in
+    part-found (a .site .now) (a .fleet .now) (a .name .now) Fleet from long
+    (sym (l .looked-up .ensures) ∙ w .whose .given .1 ∙ ap (λ (x : Whose). Found x from long) (t .enum-told2 .given .1))
+
+returns-3 : tie.Need-returns-3
+returns-3 c =
+    let t = c .before in
+    part-broken _ _ _ _ _ (sym (t .before .before .looked-up .ensures) ∙ t .enum-told3 .given .1)
+
+returns-4 : tie.Need-returns-4
+returns-4 c =
+    let t = c .before in
+    part-refused _ _ _ _ (sym (t .before .before .looked-up .ensures) ∙ t .enum-told4 .given .1)
+
+pub lookup-spec : {M : Type 1} → statement M
+lookup-spec =
+    tie.close
+    (tie.spec
+    looked-up-requires
+    enum-known-whose
+    enum-told
+    add-result
+    sub-result
+    part-result-start
+    part-result-end
+    enum-told-2
+    add-result-2
+    sub-result-2
+    part-result-start-2
+    part-result-end-2
+    enum-told-3
+    sub-result-3
+    part-result-start-3
+    part-result-end-3
+    enum-told-4
+    sub-result-4
+    part-result-start-4
+    part-result-end-4
+    returns
+    returns-2
+    returns-3
+    returns-4)

@@ -1,0 +1,142 @@
+-- `file::parts::broken_body` meets its contract. The outer loop's invariant: the bodies left decide; the inner one's: the entries left of a body
+-- decide what it is answered. The measures are the bodies left and the entries left. Assumes nothing.
+use Prim.Native.Nat.{_+_, _-_, _*_}
+use mathlib.Core.Path.{refl}
+use native.Mathlib.Omega.{arith}
+use lib.ListN.{length, take, drop}
+use Rattle.file.proofs.Turns.{Scanned, scanned-none, scanned-more, scanned-lacks, scanned-one, scanned-several}
+use Rattle.file.proofs.Turns.{Searched, AtBody, searched-none, searched-all, body-ends, body-long, searched-here, searched-more}
+use borrow.Author.Needs.{needs}
+use Rattle.file.proofs.parts.broken_body.Statement.{statement}
+use Rattle.file.proofs.parts.broken_body.Tie as tie
+
+abbrev Inv-loop : tie.InvT-loop
+Inv-loop counts bodies b at n end e₀ trees₀ e trees = Scanned (take (end - at) (drop at bodies)) n e trees
+
+abbrev μ-loop : tie.MeasureT-loop
+μ-loop counts bodies b at n end e₀ trees₀ e trees = n - e
+
+abbrev Inv-bodies : tie.InvT-bodies
+Inv-bodies counts bodies b₀ at₀ b at = Searched counts bodies b at
+
+abbrev μ-bodies : tie.MeasureT-bodies
+μ-bodies counts bodies b₀ at₀ b at = length counts - b
+
+-- the body that is scanned, wherever its number of entries is known
+at-body : (w : tie.After-wide Inv-loop μ-loop Inv-bodies μ-bodies)
+    → AtBody (w .before .before .before .before .before .before .args .counts .now)
+    (w .before .before .before .before .before .before .args .bodies .now)
+    (w .before .before .before .bodies .b) (w .before .before .before .bodies .at) (w .wide .result)
+    (w .before .before .before .bodies .at + w .wide .result * 5)
+at-body w = record {
+  counted = w .wide .ensures .0;
+  ends = refl;
+  there = w .before .before .if1 .left;
+  before = w .before .before .before .bodies .inv;
+}
+
+bodies-holds : tie.Need-bodies-holds Inv-loop μ-loop Inv-bodies μ-bodies
+bodies-holds c = searched-none _ _ (c .before .before .pre .full)
+
+shared-slice-read-wide : tie.Need-shared-slice-read-wide Inv-loop μ-loop Inv-bodies μ-bodies
+shared-slice-read-wide c = search needs
+
+wide-requires : tie.Need-wide-requires Inv-loop μ-loop Inv-bodies μ-bodies
+wide-requires c κs = search needs
+
+mul-end : tie.Need-mul-end Inv-loop μ-loop Inv-bodies μ-bodies
+mul-end c = search needs
+
+add-end : tie.Need-add-end Inv-loop μ-loop Inv-bodies μ-bodies
+add-end c = omega (arith, body-ends (at-body c))
+
+loop-holds : tie.Need-loop-holds Inv-loop μ-loop Inv-bodies μ-bodies
+loop-holds c = scanned-none _ _ (body-long (at-body c))
+
+sub-entry-at : tie.Need-sub-entry-at Inv-loop μ-loop Inv-bodies μ-bodies
+sub-entry-at c = search needs
+
+part-entry-at-start : tie.Need-part-entry-at-start Inv-loop μ-loop Inv-bodies μ-bodies
+part-entry-at-start c = search needs
+
+part-entry-at-end : tie.Need-part-entry-at-end Inv-loop μ-loop Inv-bodies μ-bodies
+part-entry-at-end c = body-ends (at-body (c .before .before))
+
+entry-at-requires : tie.Need-entry-at-requires Inv-loop μ-loop Inv-bodies μ-bodies
+entry-at-requires c κs = omega (arith, body-long (at-body (c .before .before .before)))
+
+depth-after-requires : tie.Need-depth-after-requires Inv-loop μ-loop Inv-bodies μ-bodies
+depth-after-requires c κs =
+    let k = c .before .before .before in
+    let o = k .before .before .before .before in
+    omega (arith, k .loop .inv .few, k .before .wide .ensures, o .before .before .before .pre .counted .small (o .bodies .b))
+
+enum-known-left : tie.Need-enum-known-left Inv-loop μ-loop Inv-bodies μ-bodies
+enum-known-left c = search needs
+
+enum-told : tie.Need-enum-told Inv-loop μ-loop Inv-bodies μ-bodies
+enum-told c = search needs
+
+add-e : tie.Need-add-e Inv-loop μ-loop Inv-bodies μ-bodies
+add-e c = search needs
+
+loop-less : tie.Need-loop-less Inv-loop μ-loop Inv-bodies μ-bodies
+loop-less c = search needs
+
+loop-again : tie.Need-loop-again Inv-loop μ-loop Inv-bodies μ-bodies
+loop-again c = scanned-more (c .before .before .before .before .before .before .before .loop .inv) (omega arith) (c .before .left .given .0 .0) (cc)
+
+add-b : tie.Need-add-b Inv-loop μ-loop Inv-bodies μ-bodies
+add-b c = search needs
+
+bodies-less : tie.Need-bodies-less Inv-loop μ-loop Inv-bodies μ-bodies
+bodies-less c = search needs
+
+bodies-again : tie.Need-bodies-again Inv-loop μ-loop Inv-bodies μ-bodies
+bodies-again c =
+    let k = c .before .before in
+    searched-more (at-body (k .before)) (scanned-one (k .loop .inv) (omega arith) (c .if2 .left))
+
+returns : tie.Need-returns Inv-loop μ-loop Inv-bodies μ-bodies
+returns c = searched-all (c .before .bodies .inv) (c .if1 .taken)
+
+returns-2 : tie.Need-returns-2 Inv-loop μ-loop Inv-bodies μ-bodies
+returns-2 c =
+    let k = c .before .before .before .before .before .before in
+    searched-here (at-body (k .before)) (scanned-lacks (k .loop .inv) (omega arith) (cc))
+
+returns-3 : tie.Need-returns-3 Inv-loop μ-loop Inv-bodies μ-bodies
+returns-3 c =
+    let k = c .before .before in
+    searched-here (at-body (k .before)) (scanned-several (k .loop .inv) (omega arith) (c .if2 .taken))
+
+pub broken-body-spec : {M : Type 1} → statement M
+broken-body-spec =
+    tie.close
+    (tie.spec
+    Inv-loop
+    μ-loop
+    Inv-bodies
+    μ-bodies
+    bodies-holds
+    shared-slice-read-wide
+    wide-requires
+    mul-end
+    add-end
+    loop-holds
+    sub-entry-at
+    part-entry-at-start
+    part-entry-at-end
+    entry-at-requires
+    depth-after-requires
+    enum-known-left
+    enum-told
+    add-e
+    loop-less
+    loop-again
+    add-b
+    bodies-less
+    bodies-again
+    returns
+    returns-2
+    returns-3)

@@ -1,0 +1,70 @@
+-- `file::writer::write_entry` meets its contract: the name, then four bytes stored one by one. Assumes nothing.
+use Prim.Native.Nat.{_/_, _%_}
+use mathlib.Core.Path.{refl}
+use mathlib.Core.List.{[], _∷_}
+use native.Mathlib.Omega.{arith}
+use lib.ListN.{length-set}
+use Rattle.body.specs.Bytes.{bytesOf}
+use Rattle.file.proofs.Writes.{entry-written}
+use borrow.Author.Needs.{needs}
+use Rattle.file.proofs.writer.write_entry.Statement.{statement}
+use Rattle.file.proofs.writer.write_entry.Tie as tie
+
+sub-copy : tie.Need-sub-copy
+sub-copy c = search needs
+
+part-copy-start : tie.Need-part-copy-start
+part-copy-start c = search needs
+
+part-copy-end : tie.Need-part-copy-end
+part-copy-end c = search needs
+
+copy-requires : tie.Need-copy-requires
+copy-requires c κs = search needs
+
+cast-entry : tie.Need-cast-entry
+cast-entry c = search needs
+
+slice-write-entry : tie.Need-slice-write-entry
+slice-write-entry c = search needs
+
+cast-entry-2 : tie.Need-cast-entry-2
+cast-entry-2 c = search needs
+
+slice-write-entry-2 : tie.Need-slice-write-entry-2
+slice-write-entry-2 c = simp length-set (omega arith)
+
+slice-write-entry-3 : tie.Need-slice-write-entry-3
+slice-write-entry-3 c = simp length-set (omega arith)
+
+slice-write-entry-4 : tie.Need-slice-write-entry-4
+slice-write-entry-4 c = simp length-set (omega arith)
+
+same-length : tie.Need-same-length
+same-length c = search needs
+
+returns : tie.Need-returns
+unfolding bytesOf
+returns c =
+    let p = c .before .before in
+    let s = p .before .before .before .before in
+    let a = s .args in
+    rw (p .copy .ensures)
+    (entry-written (a .name .now) (a .entry .now) (a .offset % 256 ∷ a .offset / 256 % 256 ∷ a .n ∷ 0 ∷ []) (s .pre .named) refl (s .pre .long))
+
+pub write-entry-spec : {M : Type 1} → statement M
+write-entry-spec =
+    tie.close
+    (tie.spec
+    sub-copy
+    part-copy-start
+    part-copy-end
+    copy-requires
+    cast-entry
+    slice-write-entry
+    cast-entry-2
+    slice-write-entry-2
+    slice-write-entry-3
+    slice-write-entry-4
+    same-length
+    returns)

@@ -1,0 +1,6 @@
+pub mod Contents
+pub mod Check
+pub mod Ready
+pub mod Write
+pub mod Lookup
+pub mod Claim

@@ -1,0 +1,59 @@
+-- Lookup of a name in a site file and a fleet file, site first (refusals 4, 5, 6, 7 of a file, site examined first, then 15).
+-- Assumes nothing: these are definitions.
+use Prim.Native.Nat.{ℕ, zero, suc}
+use mathlib.Core.Bool.{Bool, true, false, cond}
+use mathlib.Core.List.{List, [], _∷_}
+use lib.Dec.{eqb}
+use lib.ListN.{getD, take, drop}
+use Rattle.refusal.specs.declared.Refusal.the-variants.{Absent}
+use Rattle.body.specs.Bytes.{valueAt}
+use Rattle.file.specs.declared.FileCheck.{FileCheck}
+use Rattle.file.specs.declared.FileCheck.the-variants as Checks
+use Rattle.file.specs.declared.Whose.{Whose}
+use Rattle.file.specs.declared.Whose.the-variants.{Site, Fleet}
+use Rattle.file.specs.declared.Place.{Place}
+use Rattle.file.specs.declared.Place.the-variants.{At, Nowhere}
+use Rattle.file.specs.declared.Finding.{Finding}
+use Rattle.file.specs.declared.Finding.the-variants.{Found, Broken, Refused}
+use Rattle.file.specs.Contents.{bodyBytes, nameBytes, contentsBytes}
+use Rattle.file.specs.Check.{checkOf}
+
+-- the same bytes, as many as each other
+unfoldable pub same : List ℕ → List ℕ → Bool
+same [] [] = true
+same [] (d ∷ m) = false
+same (c ∷ l) [] = false
+same (c ∷ l) (d ∷ m) = cond (eqb c d) (same l m) false
+
+-- the offset and the bytes of the body with a name, among k entries of the contents
+unfoldable pub seek : List ℕ → List ℕ → ℕ → Place
+seek c name zero = Nowhere
+seek c name (suc k) = cond (same (take nameBytes c) name) (At (valueAt 2 c 8) (bodyBytes (getD c 10 0))) (seek (drop contentsBytes c) name k)
+
+-- the same in a sound file
+abbrev pub placed : List ℕ → List ℕ → Place
+placed [] name = Nowhere
+placed (count ∷ f) name = seek f name count
+
+abbrev pub inFile : Place → Whose → Finding → Finding
+inFile Nowhere whose otherwise = otherwise
+inFile (At from long) whose otherwise = Found whose from long
+
+abbrev pub ifSound : FileCheck → Whose → Finding → Finding
+ifSound Checks.Sound whose answer = answer
+ifSound (Checks.Refused r) whose answer = Broken whose r
+
+-- the answer of a lookup: a refused file, site examined first; then the site's body, then the fleet's, then Absent
+unfoldable pub findingOf : List ℕ → List ℕ → List ℕ → Finding
+findingOf site fleet name =
+    ifSound (checkOf site) Site (ifSound (checkOf fleet) Fleet (inFile (placed site name) Site (inFile (placed fleet name) Fleet (Refused Absent))))
+
+abbrev pub fileFrom : Whose → List ℕ → List ℕ → List ℕ
+fileFrom Site site fleet = site
+fileFrom Fleet site fleet = fleet
+
+-- the part that a lookup returns: the body, or the empty part
+abbrev pub partOf : Finding → List ℕ → List ℕ → List ℕ
+partOf (Found whose from long) site fleet = take long (drop from (fileFrom whose site fleet))
+partOf (Broken whose r) site fleet = []
+partOf (Refused r) site fleet = []

@@ -1,0 +1,120 @@
+// Pattern files: their check, their writer, and the lookup of a body in a site file and a fleet file.
+mod contents;
+mod finder;
+mod name;
+mod parts;
+mod writer;
+
+use refusal::Refusal;
+ghost use mathlib.Core.Path.{_≡_};
+ghost use Rattle.file.specs.Check.{checkOf};
+ghost use Rattle.file.specs.Write.{Wrote};
+ghost use Rattle.file.specs.Lookup.{findingOf, partOf};
+
+// The most patterns of a file.
+const MOST_PATTERNS: usize = 16;
+
+// The bytes of a name, and of an entry of the contents.
+const NAME_BYTES: usize = 8;
+
+const CONTENT_BYTES: usize = 12;
+
+// The bytes of an entry of a body, and the most entries.
+const ENTRY_BYTES: usize = 5;
+
+const MOST_ENTRIES: u8 = 63;
+
+// What the check of a file answers.
+pub enum FileCheck {
+    Sound,
+    Refused(Refusal),
+}
+
+// What the writer answers: the bytes written.
+pub enum Writing {
+    Written(usize),
+    Refused(Refusal),
+}
+
+// Which of the two files that a lookup is given.
+pub enum Whose {
+    Site,
+    Fleet,
+}
+
+// Where in a file the body with a name is: from which byte, how many bytes.
+pub enum Place {
+    Nowhere,
+    At(usize, usize),
+}
+
+// Where a lookup found its body: in which file, from which byte, how many bytes. A file that is refused is named with its refusal; a name that
+// is in neither is refused as Absent.
+pub enum Finding {
+    Found(Whose, usize, usize),
+    Broken(Whose, Refusal),
+    Refused(Refusal),
+}
+
+// Checks a file: its count, its contents, where it ends, and each body.
+pub fn check_file(file: &[u8]) -> FileCheck
+    ensures { λ r. ⌜ r ≡ checkOf (now (file .entry)) ⌝ }
+{
+    if file.len() == 0 {
+        return FileCheck::Refused(Refusal::Count);
+    }
+    contents::check_rest(parts::wide(file[0]), &file[1..])
+}
+
+// Writes the file of names, numbers of entries (one a pattern) and bodies end to end. Nothing is written unless all is accepted and there is room.
+pub fn write_file(names: &[u8], counts: &[u8], bodies: &[u8], file: &mut [u8]) -> Writing
+    ensures { λ r. ⌜ Wrote (now (names .entry)) (now (counts .entry)) (now (bodies .entry)) (now (file .entry)) (now (file .exit)) r ⌝ }
+{
+    match parts::check_parts(names, counts, bodies) {
+        FileCheck::Refused(r) => Writing::Refused(r),
+        FileCheck::Sound => {
+            let bodies_at = 1 + CONTENT_BYTES * counts.len();
+            let needed = bodies_at + bodies.len();
+            if file.len() < needed {
+                return Writing::Refused(Refusal::Room(needed));
+            }
+            file[0] = counts.len() as u8;
+            writer::write_contents(names, counts, &mut file[1..bodies_at]);
+            writer::copy(bodies, &mut file[bodies_at..needed]);
+            Writing::Written(needed)
+        }
+    }
+}
+
+// The body with a name, as the part of the site file or of the fleet file that it is; the empty part where there is none.
+pub fn lookup<'a>(site: &'a [u8], fleet: &'a [u8], name: &[u8]) -> &'a [u8]
+    ensures { λ r. ⌜ now r ≡ partOf (findingOf (now (site .entry)) (now (fleet .entry)) (now (name .entry))) (now (site .entry)) (now (fleet .entry)) ⌝ }
+{
+    match looked_up(site, fleet, name) {
+        Finding::Found(whose, from, long) => match whose {
+            Whose::Site => &site[from..from + long],
+            Whose::Fleet => &fleet[from..from + long],
+        },
+        Finding::Broken(_, _) => &site[0..0],
+        Finding::Refused(_) => &site[0..0],
+    }
+}
+
+// Where the body with a name is, site first; a refused file, site examined first, or Absent.
+pub fn looked_up(site: &[u8], fleet: &[u8], name: &[u8]) -> Finding
+    ensures { λ r. ⌜ r ≡ findingOf (now (site .entry)) (now (fleet .entry)) (now (name .entry)) ⌝ }
+{
+    match check_file(site) {
+        FileCheck::Refused(r) => Finding::Broken(Whose::Site, r),
+        FileCheck::Sound => match check_file(fleet) {
+            FileCheck::Refused(r) => Finding::Broken(Whose::Fleet, r),
+            FileCheck::Sound => match finder::find(site, name) {
+                Place::At(from, long) => Finding::Found(Whose::Site, from, long),
+                Place::Nowhere => match finder::find(fleet, name) {
+                    Place::At(from, long) => Finding::Found(Whose::Fleet, from, long),
+                    Place::Nowhere => Finding::Refused(Refusal::Absent),
+                },
+            },
+        },
+    }
+}

@@ -1,0 +1,138 @@
+// The rules that a file and the parts given to the writer share: on an entry of the contents, and on the bodies.
+use crate::ENTRY_BYTES;
+use crate::FileCheck;
+use crate::MOST_ENTRIES;
+use crate::MOST_PATTERNS;
+use crate::NAME_BYTES;
+use crate::name;
+use body::Depth;
+use refusal::Refusal;
+ghost use mathlib.Core.Path.{_≡_};
+ghost use mathlib.Core.List.{[]};
+ghost use Prim.Native.Nat.{_<_};
+ghost use Rattle.file.specs.declared.FileCheck.the-variants.{Sound};
+ghost use Rattle.file.specs.Contents.{total};
+ghost use Rattle.file.specs.Check.{entryKept, onEntry, brokenEntry, brokenBody, bodiesCheck, partsCheck};
+ghost use Rattle.file.specs.Ready.{Few, Small, Named, Whole};
+
+// Checks the names, the numbers of entries and the bodies that a writer is given.
+pub fn check_parts(names: &[u8], counts: &[u8], bodies: &[u8]) -> FileCheck
+    ensures { λ r. ⌜ r ≡ partsCheck (now (names .entry)) (now (counts .entry)) (now (bodies .entry)) ⌝ }
+{
+    if counts.len() < 1 {
+        return FileCheck::Refused(Refusal::Count);
+    }
+    if counts.len() > MOST_PATTERNS {
+        return FileCheck::Refused(Refusal::Count);
+    }
+    if names.len() != NAME_BYTES * counts.len() {
+        return FileCheck::Refused(Refusal::Count);
+    }
+    match check_entries(names, counts) {
+        FileCheck::Refused(r) => FileCheck::Refused(r),
+        FileCheck::Sound => check_bodies(counts, bodies),
+    }
+}
+
+// Checks each name with its number of entries, and finds the lowest that breaks a rule.
+fn check_entries(names: &[u8], counts: &[u8]) -> FileCheck
+    requires { ⌜ Named (now names) (now counts) ⌝ }
+    ensures { λ r. ⌜ r ≡ onEntry (brokenEntry [] (now (names .entry)) (now (counts .entry)) 0) Sound ⌝ }
+{
+    let mut i: usize = 0;
+    // from `from` to `at` is the name before, no bytes before the first
+    let mut from: usize = 0;
+    let mut at: usize = 0;
+    while i < counts.len() {
+        if !entry_kept(&names[from..at], &names[at..at + NAME_BYTES], counts[i]) {
+            return FileCheck::Refused(Refusal::Entry(i));
+        }
+        from = at;
+        at += NAME_BYTES;
+        i += 1;
+    }
+    FileCheck::Sound
+}
+
+// Whether a name stands after the one before it (no bytes before the first), with 1 to 63 entries.
+pub fn entry_kept(before: &[u8], name: &[u8], n: u8) -> bool
+    ensures { λ r. ⌜ r ≡ entryKept (now (before .entry)) (now (name .entry)) n ⌝ }
+{
+    if !name::is_name(name) {
+        return false;
+    }
+    if !name::is_below(before, name) {
+        return false;
+    }
+    if n < 1 {
+        return false;
+    }
+    n <= MOST_ENTRIES
+}
+
+// Checks bodies that lie end to end: that they end where their numbers of entries say, and each of them.
+pub fn check_bodies(counts: &[u8], bodies: &[u8]) -> FileCheck
+    requires { ⌜ Small (now counts) ⌝ }
+    ensures { λ r. ⌜ r ≡ bodiesCheck (now (counts .entry)) (now (bodies .entry)) ⌝ }
+{
+    if bodies.len() != all_bytes(counts) {
+        return FileCheck::Refused(Refusal::Size);
+    }
+    broken_body(counts, bodies)
+}
+
+// The bytes of all bodies.
+fn all_bytes(counts: &[u8]) -> usize
+    requires { ⌜ Few (now counts) ⌝ }
+    ensures { λ r. ⌜ r ≡ total (now (counts .entry)) ⌝ }
+{
+    let mut i: usize = 0;
+    let mut sum: usize = 0;
+    while i < counts.len() {
+        sum += wide(counts[i]) * ENTRY_BYTES;
+        i += 1;
+    }
+    sum
+}
+
+// A byte as a length.
+pub fn wide(x: u8) -> usize
+    ensures { λ r. ⌜ (r ≡ x) × (r < 256) ⌝ }
+{
+    x as usize
+}
+
+// The lowest body, and in it the lowest entry, that breaks a rule.
+fn broken_body(counts: &[u8], bodies: &[u8]) -> FileCheck
+    requires { ⌜ Whole (now counts) (now bodies) ⌝ }
+    ensures { λ r. ⌜ r ≡ brokenBody (now (counts .entry)) (now (bodies .entry)) 0 ⌝ }
+{
+    let mut b: usize = 0;
+    let mut at: usize = 0;
+    let found = 'bodies: loop {
+        if b >= counts.len() {
+            break 'bodies FileCheck::Sound;
+        }
+        let n = wide(counts[b]);
+        let end = at + n * ENTRY_BYTES;
+        let mut e: usize = 0;
+        let mut trees: u64 = 0;
+        while e < n {
+            match body::depth_after(body::entry_at(&bodies[at..end], e), trees) {
+                Depth::To(left) => {
+                    trees = left;
+                }
+                Depth::Lacks => {
+                    break 'bodies FileCheck::Refused(Refusal::Body(b, e));
+                }
+            }
+            e += 1;
+        }
+        if trees != 1 {
+            break 'bodies FileCheck::Refused(Refusal::Body(b, e));
+        }
+        at = end;
+        b += 1;
+    };
+    found
+}
