@@ -20,7 +20,7 @@ use Rattle.watcher.proofs.Calls.{ticked-as-walked}
 use Rattle.watcher.proofs.Feeds.{ticked-form}
 
 -- one tick more
-one-more : {b : List ℕ} {h : List Tick} {s s′ : List ℕ} (t w a : ℕ) → Watched b h s → IsTicked s s′ t w a → Watched b (h ++ ((t, w) ∷ [])) s′
+pub one-more : {b : List ℕ} {h : List Tick} {s s′ : List ℕ} (t w a : ℕ) → Watched b h s → IsTicked s s′ t w a → Watched b (h ++ ((t, w) ∷ [])) s′
 one-more t w zero x i = nothing t w x i
 one-more t w (suc a) x i = window t w a x i
 

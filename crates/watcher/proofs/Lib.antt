@@ -27,4 +27,10 @@ pub mod Theorem
 pub mod Fed
 pub mod Parts
 pub mod SetJudges
+pub mod Lent
 pub mod SetSteps
+pub mod SetFiles
+pub mod SetOpens
+pub mod Past
+pub mod SetAlones
+pub mod SetTheorem

@@ -6,8 +6,8 @@ use mathlib.Core.List.{List, [], _∷_, _++_, append-assoc, append-nil}
 use native.Mathlib.Nat.{sub-zero}
 use native.Mathlib.Numerals.{add-one}
 use native.Mathlib.Omega.{arith}
-use lib.ListN.{length, getD, take, drop, set, length-set, length-drop, length-append, take-append-drop}
-use lib.Seq.{drop-drop, drop-set-lt, take-suc-set, take-at, length-take-le}
+use lib.ListN.{length, getD, take, drop, set, length-set, length-drop, take-append-drop}
+use lib.Seq.{drop-drop, drop-set-lt, take-suc-set}
 use borrow.Rule.Slice.PartMut.{midOf, putMid, same-len-mid, mid-len, drop-put}
 use Rattle.rules.specs.Limits.{mostPatterns, ticks}
 use Rattle.watcher.specs.State.{InForm}
@@ -17,6 +17,7 @@ use Rattle.watcher.specs.Step.{StepsReady, StepsDone}
 use Rattle.watcher.specs.Set.{SetTicked, none, more, Few, IsSetTicked}
 use Rattle.watcher.specs.Sets.{PartReady, PartsReady, SetReady, SetDone}
 use Rattle.watcher.proofs.Calls.{walked-as-ticked}
+use Rattle.watcher.proofs.Lent.{put-front}
 use Rattle.watcher.proofs.Parts.{extent-le, alone-formed, alone-next, alone-beyond}
 
 -- before state i: s is the slice and new the answers, so far
@@ -106,10 +107,7 @@ module _ {n : ℕ} {s₀ : List ℕ} {t w : ℕ} {ends old s new : List ℕ} {i 
       split = sym (take-append-drop (extent ahead) ahead) ∙ ap (λ (z : List ℕ). take (extent ahead) ahead ++ z) (rw (← words) (after s₀))
 
       front : take end (putMid at (end - at) s p) ≡ take at s ++ p
-      front =
-          let k : length (take at s ++ p) ≡ end =
-          omega (arith, length-append (take at s) p, length-take-le at s (omega (arith, x .within, x .state-long)), length-part, set-stepping-ends) in
-          rw (← append-assoc (take at s) p) (take-at (take at s ++ p) (drop (end - at) (drop at s)) end k)
+      front = put-front at end s p set-stepping-ends set-stepping-within length-part
 
       -- it is stepped, and its answer written
       pub set-stepping-more : SetStepping n s₀ t w ends old (putMid at (end - at) s p) (set new i a) (i + 1)

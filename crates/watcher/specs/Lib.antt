@@ -5,5 +5,7 @@ pub mod Form
 pub mod Feed
 pub mod Step
 pub mod Set
+pub mod SetFile
 pub mod Sets
 pub mod Claim
+pub mod SetClaim

@@ -2,15 +2,36 @@
 use mathlib.Core.Path.{_≡_}
 use mathlib.Core.Bool.{true}
 use mathlib.Core.List.{List, [], _∷_, _++_}
-use Prim.Native.Nat.{ℕ, _+_, _≤_, _<_}
+use Prim.Native.Nat.{ℕ, _+_, _*_, _≤_, _<_}
 use native.Mathlib.Decide.{decLt}
 use lib.ListN.{length, getD, take, drop}
 use Rattle.rules.specs.Decisions.{pick}
 use Rattle.rules.specs.Limits.{mostPatterns, ticks}
+use Rattle.rules.specs.Pattern.{Pattern}
+use Rattle.file.specs.declared.FileCheck.the-variants.{Sound}
+use Rattle.file.specs.Check.{checkOf}
 use Rattle.watcher.specs.declared.set.SetTicking.{SetTicking}
 use Rattle.watcher.specs.declared.set.SetTicking.the-variants.{Ticked, Refused}
 use Rattle.watcher.specs.Walk.{formed, extent}
 use Rattle.watcher.specs.Set.{SetFault, SetTicked}
+use Rattle.watcher.specs.SetFile.{Holds, roomsOf}
+
+-- a file is sound
+abbrev pub SoundFile : List ℕ → Type 0
+SoundFile f = checkOf f ≡ Sound
+
+-- n words are those of the states of a sound file's patterns
+pub record RoomSummed (f : List ℕ) (n : ℕ) : Type 0 where
+  pub patterns : List Pattern
+  pub file : Holds f patterns
+  pub room : n ≡ roomsOf patterns
+  pub small : n ≤ 8003 * mostPatterns
+
+-- a sound file, with room for its states
+pub record SetOpenReady (f s : List ℕ) : Type 0 where
+  pub needed : ℕ
+  pub summed : RoomSummed f needed
+  pub room : needed ≤ length s
 
 -- the lowest late state so far, n for none, after state i with its next tick allowed
 unfoldable pub lateAfter : ℕ → ℕ → ℕ → ℕ → ℕ → ℕ
