@@ -2,6 +2,7 @@
 use mathlib.Core.Path.{_≡_, refl, sym, _∙_}
 use mathlib.Core.Bool.{Bool, true, false, cond}
 use mathlib.Core.List.{List}
+use mathlib.Core.Option.{Option, none, some}
 use Prim.Native.Nat.{ℕ, _+_, _≤_, _<_}
 use native.Mathlib.Decide.{decLe}
 use native.Mathlib.Omega.{arith}
@@ -9,8 +10,8 @@ use lib.Dec.{leb}
 use lib.ListN.{length, getD}
 use borrow.Author.Tests.{le-leb, lt-leb}
 use Rattle.rules.specs.Limits.{mostEntries, ticks}
-use Rattle.watcher.specs.Walk.{formed}
-use Rattle.watcher.specs.Form.{sounds, cellsFit}
+use Rattle.watcher.specs.Walk.{isSome, judged, formed, endBy, extent}
+use Rattle.watcher.specs.Form.{sounds, cellsEnd}
 
 module _ (s : List ℕ) where
   pub formed-least : getD s 0 0 < 1 → false ≡ formed s
@@ -44,8 +45,8 @@ module _ (s : List ℕ) where
                 lt-leb (getD s 1 0) ticks h,
               )
 
-          pub formed-cells : getD s 1 0 ≤ ticks → cellsFit s ≡ formed s
-          unfolding formed sounds cellsFit
+          formed-cells : getD s 1 0 ≤ ticks → isSome (judged s) ≡ formed s
+          unfolding formed sounds
           formed-cells h =
               rw (
                 le-leb 1 (getD s 0 0) least,
@@ -54,6 +55,19 @@ module _ (s : List ℕ) where
                 sound,
                 le-leb (getD s 1 0) ticks h,
               )
+
+          pub extent-cells : getD s 1 0 ≤ ticks → cellsEnd s ≡ extent s
+          unfolding extent cellsEnd
+          extent-cells h = rw (← formed-cells h) (kept (length s) (judged s))
+            where
+              kept : (n : ℕ) (o : Option (List ℕ)) → endBy n o ≡ cond (isSome o) (endBy n o) 0
+              kept n none = refl
+              kept n (some l) = refl
+
+  -- the words of a state not in form
+  pub extent-none : false ≡ formed s → 0 ≡ extent s
+  unfolding extent
+  extent-none q = rw (← q)
 
   -- a state of fewer than three words has no entry
   pub formed-short : length s < 3 → false ≡ formed s

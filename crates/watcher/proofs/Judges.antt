@@ -1,6 +1,6 @@
 -- The form judged is the form stated: on a tree the judge takes exactly the words of a memory in form, and the entries are a tree's.
 -- Assumes nothing.
-use Prim.Native.Nat.{ℕ, _+_, _≤_, _^_}
+use Prim.Native.Nat.{ℕ, _+_, _-_, _≤_, _<_, _^_}
 use mathlib.Core.Path.{_≡_, refl, sym, ap, ap₂, subst, _∙_}
 use mathlib.Core.Bool.{Bool, true, false, cond}
 use mathlib.Core.List.{List, [], _∷_, _++_, append-nil}
@@ -29,7 +29,7 @@ use Rattle.body.proofs.Trees.{size-pos, length-postfix, proper-fits, fits-prope
 use Rattle.cell.specs.Cell.{cellWords, possible}
 use Rattle.cell.specs.Form.{cellFits}
 use Rattle.watcher.specs.State.{entryWords, cells, stateOf, InForm}
-use Rattle.watcher.specs.Walk.{entryIn, judgeCell, onAhead, judgeM, isSome, isNone, judged, formed}
+use Rattle.watcher.specs.Walk.{entryIn, judgeCell, onAhead, judgeM, isSome, isNone, judged, formed, endBy, extent}
 use Rattle.watcher.specs.Claim.{FormedExactly}
 use Rattle.watcher.proofs.Entries.{Fitting, words-entries, read-fits, run-tree}
 use Rattle.watcher.proofs.States.{state-parts, count-word, next-word, entries-read, cells-from, state-long}
@@ -243,7 +243,7 @@ unfolding scan
 scan-whole e = rw (append-nil (postfix e)) at (scan-postfix e [] 0 0)
 
 -- the words beyond the cells of a state in form
-in-form-cells : (s : List ℕ) (f : InForm s) → judged s ≡ some (f .beyond)
+pub in-form-cells : (s : List ℕ) (f : InForm s) → judged s ≡ some (f .beyond)
 unfolding judged
 in-form-cells s f =
     let e : Pattern = f .pattern in
@@ -263,6 +263,29 @@ in-form-judged s f =
       taken = rw (in-form-cells s f);
     }
 
+-- the words of a state in form: all but those beyond
+pub in-form-extent : (s : List ℕ) (f : InForm s) → extent s ≡ length s - length (f .beyond)
+unfolding extent
+in-form-extent s f = rw (judged-formed s (in-form-judged s f), in-form-cells s f)
+
 -- the form judged is the form stated
 pub formed-exactly : FormedExactly
 formed-exactly s = ((λ q. judged-in-form s (formed-judged s q)), (λ f. judged-formed s (in-form-judged s f)))
+
+-- and a state is in form exactly where it has words
+pub extent-formed : (s : List ℕ) → 0 < extent s → formed s ≡ true
+unfolding extent
+extent-formed s h = go (formed s) refl h
+  where
+    go : (t : Bool) → formed s ≡ t → 0 < cond t (endBy (length s) (judged s)) 0 → formed s ≡ true
+    go true q k = q
+    go false q k = absurd (omega arith)
+
+pub extent-broken : (s : List ℕ) → extent s ≤ 0 → formed s ≡ false
+extent-broken s h = go (formed s) refl
+  where
+    go : (t : Bool) → formed s ≡ t → formed s ≡ false
+    go true q =
+        let f : InForm s = judged-in-form s (formed-judged s q) in
+        absurd (omega (arith, in-form-extent s f, ap length (f .same), length-append (stateOf (f .pattern) (f .next) (f .memory)) (f .beyond)))
+    go false q = q

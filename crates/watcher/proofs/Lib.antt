@@ -14,6 +14,7 @@ pub mod Runs
 pub mod Places
 pub mod Calls
 pub mod Ways
+pub mod Feeds
 pub mod Walking
 pub mod Segments
 pub mod Pairing
@@ -23,3 +24,13 @@ pub mod Opens
 pub mod Puts
 pub mod Agrees
 pub mod Theorem
+pub mod Fed
+pub mod Parts
+pub mod SetJudges
+pub mod Lent
+pub mod SetSteps
+pub mod SetFiles
+pub mod SetOpens
+pub mod Past
+pub mod SetAlones
+pub mod SetTheorem

@@ -89,7 +89,7 @@ module _ (b : List ℕ) (e : Pattern) (w : BodyOf argumentBytes b e) where
   body-count : length b / (argumentBytes + 1) ≡ size e
   body-count = whole-count argumentBytes (length b) (size e) (ap length (w .same) ∙ length-encode argumentBytes e)
 
-  body-cells : cellsNeeded b ≡ cellRoom e
+  pub body-cells : cellsNeeded b ≡ cellRoom e
   unfolding cellsNeeded
   body-cells =
       ap (λ (es : List Entry). run roomM es [] 0 .1) body-entries

@@ -14,9 +14,11 @@ use Rattle.watcher.specs.declared.Opening.{Opening}
 use Rattle.watcher.specs.declared.Opening.the-variants as Opens
 use Rattle.watcher.specs.declared.Ticking.{Ticking}
 use Rattle.watcher.specs.declared.Ticking.the-variants as Ticks
+use Rattle.watcher.specs.declared.Feeding.{Feeding}
 use Rattle.watcher.specs.State.{InForm}
 use Rattle.watcher.specs.Answer.{RoomAnswers, OpenAnswers, TickAnswers}
 use Rattle.watcher.specs.Walk.{formed}
+use Rattle.watcher.specs.Feed.{AllTicked, FeedAnswers}
 
 -- a slice that was opened with a body and then only ticked: the ticks accepted so far, in order, and its words now
 pub data Watched (b : List ℕ) : List Tick → List ℕ → Type 0 where
@@ -58,3 +60,13 @@ OneOpening =
 -- and no second answer that of the room
 abbrev pub OneRoom : Type 0
 OneRoom = (b : List ℕ) (r r′ : Needed) → RoomAnswers b r → RoomAnswers b r′ → r ≡ r′
+
+-- feeding is watching: ticks taken one after the other are added to the history
+abbrev pub FedWatched : Type 0
+FedWatched = (b : List ℕ) (h k : List Tick) (s s′ l : List ℕ) → Watched b h s → AllTicked s k l s′ → Watched b (h ++ k) s′
+
+-- and no second answer, slice or answers meet the promise of feeding
+abbrev pub OneFeeding : Type 0
+OneFeeding =
+    (s ts ws old s′ s″ new new′ : List ℕ) (r r′ : Feeding) → FeedAnswers s ts ws old s′ new r → FeedAnswers s ts ws old s″ new′ r′
+    → (r ≡ r′) × (s′ ≡ s″) × (new ≡ new′)

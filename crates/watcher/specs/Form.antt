@@ -11,15 +11,15 @@ use Rattle.body.specs.declared.Entry.the-variants.{Letter, Pair, Within, Wrong}
 use Rattle.body.specs.Entry.{entriesBy, entryAt}
 use Rattle.body.specs.Check.{scan}
 use Rattle.watcher.specs.State.{wordOf}
-use Rattle.watcher.specs.Walk.{cellsNeeded, entryIn, isNone, isSome, judged}
+use Rattle.watcher.specs.Walk.{cellsNeeded, entryIn, isNone, judged, endBy}
 
 -- the entries of a state break no rule
 unfoldable pub sounds : List ℕ → Bool
 sounds s = isNone (scan (entriesBy (entryIn s) 0 (getD s 0 0)) 0 0)
 
--- every cell is there and in form
-unfoldable pub cellsFit : List ℕ → Bool
-cellsFit s = isSome (judged s)
+-- where the cells end, 0 if one is not there or not in form
+unfoldable pub cellsEnd : List ℕ → ℕ
+cellsEnd s = endBy (length s) (judged s)
 
 -- n is the number of entries, 1 to 63, and their words are there
 pub record Entered (s : List ℕ) (n : ℕ) : Type 0 where

@@ -2,5 +2,10 @@ pub mod State
 pub mod Answer
 pub mod Walk
 pub mod Form
+pub mod Feed
 pub mod Step
+pub mod Set
+pub mod SetFile
+pub mod Sets
 pub mod Claim
+pub mod SetClaim

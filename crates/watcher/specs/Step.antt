@@ -8,7 +8,9 @@ use Rattle.rules.specs.declared.Op.{Op}
 use Rattle.rules.specs.declared.Op.the-variants.{Either, Both, Without, Chain}
 use Rattle.rules.specs.Limits.{ticks}
 use Rattle.cell.specs.Cell.{cellWords, possible, cellAnswer, cellAfter, startsAfter}
-use Rattle.watcher.specs.Walk.{formed, answerOf, wordsAfter}
+use Rattle.watcher.specs.declared.Feeding.the-variants.{Fed}
+use Rattle.watcher.specs.Walk.{formed, answerOf, wordsAfter, answersFed, wordsFed}
+use Rattle.watcher.specs.Feed.{paired, firstFault}
 
 -- a state may take a tick
 pub record StepsReady (s : List ℕ) (t : ℕ) : Type 0 where
@@ -20,6 +22,18 @@ pub record StepsReady (s : List ℕ) (t : ℕ) : Type 0 where
 pub record StepsDone (s : List ℕ) (t w : ℕ) (s′ : List ℕ) (r : ℕ) : Type 0 where
   pub answer : r ≡ answerOf t w s
   pub words : s′ ≡ wordsAfter t w s
+
+-- a state may take ticks, one after the other
+pub record FeedReady (s ts ws old : List ℕ) : Type 0 where
+  pub form : formed s ≡ true
+  pub even : length ts ≡ length ws
+  pub room : length ts ≤ length old
+  pub sound : firstFault 0 (getD s 1 0) ts ≡ Fed
+
+-- it took them
+pub record FeedDone (s ts ws old s′ new : List ℕ) : Type 0 where
+  pub words : s′ ≡ wordsFed (paired ts ws) s
+  pub answers : new ≡ answersFed (paired ts ws) s ++ drop (length ts) old
 
 -- the possible starts at place k of the stack: from its base up to the next place's
 abbrev pub segment : List ℕ → List ℕ → ℕ → List ℕ

@@ -3,7 +3,7 @@
 use mathlib.Core.Bool.{Bool, true, false, cond}
 use mathlib.Core.List.{List, [], _∷_, _++_}
 use mathlib.Core.Option.{Option, none, some}
-use Prim.Native.Nat.{ℕ, suc, _+_, _/_, _%_}
+use Prim.Native.Nat.{ℕ, suc, _+_, _-_, _/_, _%_}
 use native.Mathlib.Decide.{decLe, ℕ-discrete}
 use lib.Dec.{leb}
 use lib.ListN.{length, getD, take, drop, set, replicate}
@@ -11,6 +11,7 @@ use Rattle.rules.specs.declared.Op.{Op}
 use Rattle.rules.specs.Bits.{bit}
 use Rattle.rules.specs.Decisions.{pick}
 use Rattle.rules.specs.Limits.{argumentBytes, mostEntries, ticks}
+use Rattle.rules.specs.History.{Tick}
 use Rattle.body.specs.declared.Entry.{Entry}
 use Rattle.body.specs.Entry.{entryOf, entriesBy, entries}
 use Rattle.body.specs.Check.{scan}
@@ -86,6 +87,15 @@ formed s =
     (cond (isNone (scan (entriesBy (entryIn s) 0 (getD s 0 0)) 0 0)) (cond (leb (getD s 1 0) ticks)
     (isSome (judged s)) false) false) false) false) false
 
+-- where the words of a state end, of n words in all, by those beyond them: 0 for none
+abbrev pub endBy : ℕ → Option (List ℕ) → ℕ
+endBy n none = 0
+endBy n (some l) = n - length l
+
+-- the number of a state's words, 0 if it is not in form
+unfoldable pub extent : List ℕ → ℕ
+extent s = cond (formed s) (endBy (length s) (judged s)) 0
+
 -- on the stack: an answer, and the possible starts, as many as p
 abbrev pub Value : Type 0
 Value = ℕ × List ℕ
@@ -133,3 +143,12 @@ answerOf t w s = lastAnswer (ticked t w s .0)
 -- the words after the tick: the cells as they become, and the next tick allowed
 unfoldable pub wordsAfter : ℕ → ℕ → List ℕ → List ℕ
 wordsAfter t w s = set (take (2 + getD s 0 0) s ++ (ticked t w s .1 .0 ++ ticked t w s .1 .1)) 1 (t + 1)
+
+-- ticks one after the other: their answers, and the words after them
+unfoldable pub answersFed : List Tick → List ℕ → List ℕ
+answersFed [] s = []
+answersFed (k ∷ h) s = answerOf (k .0) (k .1) s ∷ answersFed h (wordsAfter (k .0) (k .1) s)
+
+unfoldable pub wordsFed : List Tick → List ℕ → List ℕ
+wordsFed [] s = s
+wordsFed (k ∷ h) s = wordsFed h (wordsAfter (k .0) (k .1) s)

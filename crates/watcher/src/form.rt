@@ -1,38 +1,38 @@
-// Whether a state is in form.
+// Whether a state is in form, and how many words it has.
 use body::Depth;
 use body::Entry;
 ghost use mathlib.Core.Path.{_≡_};
 ghost use mathlib.Core.Bool.{true};
 ghost use Prim.Native.Nat.{_+_, _<_, _≤_};
 ghost use lib.ListN.{length, getD};
-ghost use Rattle.watcher.specs.Walk.{entryIn, formed};
-ghost use Rattle.watcher.specs.Form.{Entered, CellsReady, sounds, cellsFit};
+ghost use Rattle.watcher.specs.Walk.{entryIn, extent};
+ghost use Rattle.watcher.specs.Form.{Entered, CellsReady, sounds, cellsEnd};
 
-// The number of entries, their words, a sound body, the next tick, and every cell.
-pub(crate) fn in_form(state: &[u64]) -> bool
-    ensures { λ r. ⌜ r ≡ formed (now (state .entry)) ⌝ }
+// The words of a state, 0 if it is not in form: the number of entries, their words, a sound body, the next tick, and every cell.
+pub(crate) fn extent(state: &[u64]) -> usize
+    ensures { λ r. ⌜ r ≡ extent (now (state .entry)) ⌝ }
 {
     if state.len() < 3 {
-        return false;
+        return 0;
     }
     let count = state[0];
     if count < 1 {
-        return false;
+        return 0;
     }
     if 63 < count {
-        return false;
+        return 0;
     }
     let n = count as usize;
     if state.len() < 2 + n {
-        return false;
+        return 0;
     }
     if sound_entries(state, n) {
         if 4294967296 < state[1] {
-            return false;
+            return 0;
         }
-        return cells_fit(state, n);
+        return cells_end(state, n);
     }
-    false
+    0
 }
 
 // Entry i of a state.
@@ -65,10 +65,10 @@ fn sound_entries(state: &[u64], n: usize) -> bool
     trees == 1
 }
 
-// Whether every cell is there and in form.
-fn cells_fit(state: &[u64], n: usize) -> bool
+// Where the cells end, 0 if one is not there or not in form.
+fn cells_end(state: &[u64], n: usize) -> usize
     requires { ⌜ CellsReady (now state) n ⌝ }
-    ensures { λ r. ⌜ r ≡ cellsFit (now (state .entry)) ⌝ }
+    ensures { λ r. ⌜ r ≡ cellsEnd (now (state .entry)) ⌝ }
 {
     let next = state[1];
     let mut possible = [0usize; 32];
@@ -90,19 +90,19 @@ fn cells_fit(state: &[u64], n: usize) -> bool
                 crate::small(x, y);
                 let end = at + cell::cell_words(op, y);
                 if state.len() < end {
-                    return false;
+                    return 0;
                 }
                 if cell::cell_fits(op, &state[at..end], next) {
                     possible[d - 2] = cell::possible_of(op, x, y);
                     d -= 1;
                     at = end;
                 } else {
-                    return false;
+                    return 0;
                 }
             }
             Entry::Within(_) => {}
             Entry::Wrong => {}
         }
     }
-    true
+    at
 }

@@ -1,5 +1,6 @@
 // The watcher: its state as words in a lent slice, opened from a body and moved by ticks.
 mod form;
+pub mod set;
 mod walk;
 
 use body::BodyCheck;
@@ -13,6 +14,7 @@ ghost use Rattle.rules.specs.Limits.{argumentBytes};
 ghost use Rattle.body.specs.Entry.{opNumber};
 ghost use Rattle.body.specs.Check.{checkOf};
 ghost use Rattle.watcher.specs.Answer.{RoomAnswers, OpenAnswers, TickAnswers};
+ghost use Rattle.watcher.specs.Feed.{FeedAnswers, firstFault};
 ghost use Rattle.watcher.specs.Walk.{cellsNeeded, wordsOpened};
 ghost use Rattle.watcher.specs.State.{wordOf};
 ghost use Rattle.watcher.specs.Form.{Narrow, Put, wordsOf, zeros, OpenReady};
@@ -33,6 +35,12 @@ pub enum Opening {
 pub enum Ticking {
     Window(u64),
     Nothing,
+    Refused(Refusal),
+}
+
+// What feeding answers.
+pub enum Feeding {
+    Fed,
     Refused(Refusal),
 }
 
@@ -72,7 +80,7 @@ pub fn tick(state: &mut [u64], t: u64, events: u32) -> Ticking
     if 4294967295 < t {
         return Ticking::Refused(Refusal::Range);
     }
-    if form::in_form(state) {
+    if 0 < form::extent(state) {
         if t < state[1] {
             return Ticking::Refused(Refusal::Late(0));
         }
@@ -83,6 +91,52 @@ pub fn tick(state: &mut [u64], t: u64, events: u32) -> Ticking
         return Ticking::Window(answer - 1);
     }
     Ticking::Refused(Refusal::State(0))
+}
+
+// Takes ticks with their events, one after the other, the state judged once: an answer for each tick, start + 1 or 0.
+// If a tick is refused, none is taken.
+pub fn feed(state: &mut [u64], ticks: &[u64], events: &[u32], answers: &mut [u64]) -> Feeding
+    ensures { λ r. ⌜ FeedAnswers (now (state .entry)) (now (ticks .entry)) (now (events .entry)) (now (answers .entry))
+        (now (state .exit)) (now (answers .exit)) r ⌝ }
+{
+    if ticks.len() != events.len() {
+        return Feeding::Refused(Refusal::Record);
+    }
+    if answers.len() < ticks.len() {
+        return Feeding::Refused(Refusal::Room(ticks.len()));
+    }
+    if 0 < form::extent(state) {
+        match first_fault(ticks, state[1]) {
+            Feeding::Refused(r) => {
+                return Feeding::Refused(r);
+            }
+            Feeding::Fed => {
+                walk::steps(state, ticks, events, answers);
+                return Feeding::Fed;
+            }
+        }
+    }
+    Feeding::Refused(Refusal::State(0))
+}
+
+// The refusal of the first tick that is over the limit or below the next allowed.
+fn first_fault(ticks: &[u64], next: u64) -> Feeding
+    ensures { λ r. ⌜ r ≡ firstFault 0 next (now (ticks .entry)) ⌝ }
+{
+    let mut allowed = next;
+    let mut i: usize = 0;
+    while i < ticks.len() {
+        let t = ticks[i];
+        if 4294967295 < t {
+            return Feeding::Refused(Refusal::Range);
+        }
+        if t < allowed {
+            return Feeding::Refused(Refusal::Late(i));
+        }
+        allowed = t + 1;
+        i += 1;
+    }
+    Feeding::Fed
 }
 
 // The number of entries, no tick yet, the entries, and empty cells.

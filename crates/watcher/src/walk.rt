@@ -5,7 +5,7 @@ ghost use mathlib.Core.Path.{_≡_};
 ghost use Prim.Native.Nat.{_<_};
 ghost use Rattle.rules.specs.Limits.{ticks};
 ghost use Rattle.watcher.specs.Walk.{letterAnswer, withinAnswer};
-ghost use Rattle.watcher.specs.Step.{StepsReady, StepsDone, ownFrom, PairReady, PairDone};
+ghost use Rattle.watcher.specs.Step.{StepsReady, StepsDone, FeedReady, FeedDone, ownFrom, PairReady, PairDone};
 
 // Takes a tick t with its events and gives the answer: start + 1 of the window that ends at t, 0 for none.
 // On the stack are at most 32 answers, and at most 62 possible starts: those at place k are starts[base[k]..base[k + 1]].
@@ -43,6 +43,19 @@ pub(crate) fn step(state: &mut [u64], t: u64, events: u32) -> u64
     }
     state[1] = t + 1;
     answers[0]
+}
+
+// Takes ticks with their events, one after the other, and writes their answers.
+pub(crate) fn steps(state: &mut [u64], ticks: &[u64], events: &[u32], answers: &mut [u64])
+    requires { ⌜ FeedReady (now state) (now ticks) (now events) (now answers) ⌝ }
+    ensures { λ _. ⌜ FeedDone (now (state .entry)) (now (ticks .entry)) (now (events .entry)) (now (answers .entry))
+        (now (state .exit)) (now (answers .exit)) ⌝ }
+{
+    let mut i: usize = 0;
+    while i < ticks.len() {
+        answers[i] = step(state, ticks[i], events[i]);
+        i += 1;
+    }
 }
 
 // The answer of a letter: t itself is the start, if the event is there.

@@ -4,7 +4,7 @@ use mathlib.Core.Bool.{true}
 use native.Mathlib.Omega.{arith}
 use borrow.Author.Needs.{needs}
 use Rattle.watcher.specs.Walk.{formed}
-use Rattle.watcher.proofs.Judges.{formed-judged}
+use Rattle.watcher.proofs.Judges.{formed-judged, extent-formed, extent-broken}
 use Rattle.watcher.proofs.Calls.{refused-form, refused-late, refused-range}
 use Rattle.watcher.proofs.Ways.{ticked-nothing, ticked-window}
 use Rattle.watcher.proofs.tick.Statement.{statement}
@@ -12,13 +12,13 @@ use Rattle.watcher.proofs.tick.Tie as tie
 
 -- the state is in form past the test
 form : (c : tie.Then2) → formed (c .before .before .before .before .before .args .state .now) ≡ true
-form c = sym (c .before .in-form .ensures) ∙ c .if2 .taken
+form c = extent-formed _ (omega arith)
 
 returns : tie.Need-returns
 returns c = (refused-range _ _ (omega arith), refl)
 
-in-form-requires : tie.Need-in-form-requires
-in-form-requires c κs = search needs
+extent-requires : tie.Need-extent-requires
+extent-requires c κs = search needs
 
 slice-read-if3 : tie.Need-slice-read-if3
 slice-read-if3 c = omega (arith, formed-judged _ (form (c .before)) .long)
@@ -55,14 +55,14 @@ same-length-4 : tie.Need-same-length-4
 same-length-4 c = search needs
 
 returns-5 : tie.Need-returns-5
-returns-5 c = (refused-form _ _ (omega arith) (sym (c .before .in-form .ensures) ∙ c .if2 .left), refl)
+returns-5 c = (refused-form _ _ (omega arith) (extent-broken _ (omega arith)), refl)
 
 pub tick-spec : {M : Type 1} → statement M
 tick-spec =
     tie.close
     (tie.spec
     returns
-    in-form-requires
+    extent-requires
     slice-read-if3
     same-length
     returns-2

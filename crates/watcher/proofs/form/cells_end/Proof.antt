@@ -1,10 +1,10 @@
--- `watcher::form::cells_fit` meets its contract: the invariant is `Judging` with the stack of p in an array, the measure the entries left.
+-- `watcher::form::cells_end` meets its contract: the invariant is `Judging` with the stack of p in an array, the measure the entries left.
 -- Assumes nothing.
 use mathlib.Core.Path.{_≡_, refl, sym, ap, subst, _∙_}
 use mathlib.Core.Bool.{true, false}
 use mathlib.Core.List.{List, []}
 use Prim.Native.Nat.{ℕ, _+_, _-_, _≤_, _<_}
-use lib.ListN.{getD, set, length, length-set, take, drop}
+use lib.ListN.{getD, set, length, length-set, length-drop, take, drop}
 use native.Mathlib.Omega.{arith}
 use borrow.Author.Needs.{needs}
 use Rattle.body.specs.declared.Entry.the-variants.{Letter, Pair, Within, Wrong}
@@ -13,15 +13,15 @@ use Rattle.body.specs.Check.{scan}
 use Rattle.body.specs.Stack.{stack, stackBy}
 use Rattle.cell.specs.Cell.{cellWords}
 use Rattle.cell.specs.Form.{cellFits}
-use Rattle.watcher.specs.Walk.{entryIn, isSome, judged}
-use Rattle.watcher.specs.Form.{sounds, cellsFit}
+use Rattle.watcher.specs.Walk.{entryIn, endBy, judged}
+use Rattle.watcher.specs.Form.{sounds, cellsEnd}
 use Rattle.watcher.proofs.Piles.{piled-wrong}
 use Rattle.watcher.proofs.Arrays.{letter-fits, letter-stack, pair-two, pair-stack, pair-small, pair-set, part-is, part-long}
 use Rattle.watcher.proofs.Sounds.{none-by}
 use Rattle.watcher.proofs.Rooming.{words-le}
 use Rattle.watcher.proofs.Judging.{Judging, judging-start, judging-end, judging-letter, judging-within, judging-pair, judging-short, judging-broken}
-use Rattle.watcher.proofs.form.cells_fit.Statement.{statement}
-use Rattle.watcher.proofs.form.cells_fit.Tie as tie
+use Rattle.watcher.proofs.form.cells_end.Statement.{statement}
+use Rattle.watcher.proofs.form.cells_end.Tie as tie
 
 abbrev Inv-loop : tie.InvT-loop
 Inv-loop state n next possible₀ d₀ at₀ i₀ possible d at i = (i ≤ n) × (d ≤ 32) × (length possible ≡ 32) × Judging state i at (stack possible d)
@@ -138,7 +138,7 @@ add-end c =
     omega (arith, c .before .before .before .before .before .before .before .before .loop .inv .3 .inside, c .cell-words .ensures, words-le (c .before .before .before .before .entry .given .0 .0) (getD (c .before .before .before .before .before .before .before .before .loop .possible) (c .before .before .before .before .before .before .before .before .loop .d - 1) 0), c .before .small .ensures)
 
 returns : tie.Need-returns Inv-loop μ-loop
-unfolding cellsFit
+unfolding cellsEnd
 returns c =
     let k = c .before .before .before .before in
     let l = k .before .before .before .before .before .loop in
@@ -148,7 +148,7 @@ returns c =
     let q = pair-entry k in
     let h : l .i < getD (s .args .state .now) 0 0 = omega (arith, e .count) in
     let st = pair-stack (l .possible) (l .d) (l .inv .2) (x .piled) h (omega (arith, e .count, e .most)) _ q in
-    ap isSome (sym (judging-short (rw st at x) h _ q (omega (arith, c .before .cell-words .ensures))))
+    ap (endBy _) (sym (judging-short (rw st at x) h _ q (omega (arith, c .before .cell-words .ensures))))
 
 mul-cell-fits : tie.Need-mul-cell-fits Inv-loop μ-loop
 mul-cell-fits c = omega arith
@@ -209,7 +209,7 @@ loop-again-2 c =
     )
 
 returns-2 : tie.Need-returns-2 Inv-loop μ-loop
-unfolding cellsFit
+unfolding cellsEnd
 returns-2 c =
     let k = c .before .before .before .before .before .before .before in
     let l = k .before .before .before .before .before .loop in
@@ -222,7 +222,7 @@ returns-2 c =
     let w = c .before .before .before .before in
     let f = c .before in
     let fits = ap (cellFits _ _) (sym (part-is (s .args .state .now) (l .at) (w .cell-words .result) _ (w .cell-words .ensures))) ∙ sym (f .cell-fits .ensures) ∙ c .if2 .left in
-    ap isSome (sym (judging-broken (rw st at x) h _ q (omega (arith, w .cell-words .ensures)) fits))
+    ap (endBy _) (sym (judging-broken (rw st at x) h _ q (omega (arith, w .cell-words .ensures)) fits))
 
 enum-told-2 : tie.Need-enum-told-2 Inv-loop μ-loop
 enum-told-2 c = search needs
@@ -250,14 +250,15 @@ loop-again-4 c =
     absurd (piled-wrong (l .inv .3 .piled) (omega (arith, e .count)) (sym (c .before .before .entry-in .ensures) ∙ c .enum-told3 .given .1))
 
 returns-3 : tie.Need-returns-3 Inv-loop μ-loop
-unfolding cellsFit
+unfolding cellsEnd
 returns-3 c =
     let l = c .before .loop in
     let e = c .before .before .before .before .pre .entered in
-    ap isSome (sym (judging-end (l .inv .3) (omega (arith, e .count))))
+    let s = c .before .before .before .before .args .state .now in
+    omega (arith, ap (endBy (length s)) (judging-end (l .inv .3) (omega (arith, e .count))), length-drop (l .at) s, l .inv .3 .inside)
 
-pub cells-fit-spec : {M : Type 1} → statement M
-cells-fit-spec =
+pub cells-end-spec : {M : Type 1} → statement M
+cells-end-spec =
     tie.close
     (tie.spec
     Inv-loop

@@ -1,28 +1,28 @@
--- `watcher::form::in_form` meets its contract: each test that fails, and the last, by the definition of the form. Assumes nothing.
+-- `watcher::form::extent` meets its contract: each test that fails, and the last, by the definition of the extent. Assumes nothing.
 use mathlib.Core.Path.{_≡_, sym, _∙_}
 use native.Mathlib.Omega.{arith}
 use borrow.Author.Needs.{needs}
-use Rattle.watcher.proofs.Formed.{formed-short, formed-least, formed-most, formed-long, formed-unsound, formed-early, formed-cells}
-use Rattle.watcher.proofs.form.in_form.Statement.{statement}
-use Rattle.watcher.proofs.form.in_form.Tie as tie
+use Rattle.watcher.proofs.Formed.{formed-short, formed-least, formed-most, formed-long, formed-unsound, formed-early, extent-cells, extent-none}
+use Rattle.watcher.proofs.form.extent.Statement.{statement}
+use Rattle.watcher.proofs.form.extent.Tie as tie
 
 returns : tie.Need-returns
-returns c = formed-short _ (omega arith)
+returns c = extent-none _ (formed-short _ (omega arith))
 
 shared-slice-read-count : tie.Need-shared-slice-read-count
 shared-slice-read-count c = search needs
 
 returns-2 : tie.Need-returns-2
-returns-2 c = formed-least _ (omega arith)
+returns-2 c = extent-none _ (formed-least _ (omega arith))
 
 returns-3 : tie.Need-returns-3
-returns-3 c = formed-most _ (omega arith) (omega arith)
+returns-3 c = extent-none _ (formed-most _ (omega arith) (omega arith))
 
 add-if4 : tie.Need-add-if4
 add-if4 c = search needs
 
 returns-4 : tie.Need-returns-4
-returns-4 c = formed-long _ (omega arith) (omega arith) (omega arith)
+returns-4 c = extent-none _ (formed-long _ (omega arith) (omega arith) (omega arith))
 
 sound-entries-requires : tie.Need-sound-entries-requires
 sound-entries-requires c κs = search needs
@@ -33,10 +33,10 @@ shared-slice-read-if6 c = search needs
 returns-5 : tie.Need-returns-5
 returns-5 c =
     let f = c .before .before .before in
-    formed-early _ (omega arith) (omega arith) (omega arith) (sym (f .sound-entries .ensures) ∙ c .before .before .if5 .taken) (omega arith)
+    extent-none _ (formed-early _ (omega arith) (omega arith) (omega arith) (sym (f .sound-entries .ensures) ∙ c .before .before .if5 .taken) (omega arith))
 
-cells-fit-requires : tie.Need-cells-fit-requires
-cells-fit-requires c κs =
+cells-end-requires : tie.Need-cells-end-requires
+cells-end-requires c κs =
     let f = c .before .before .before in
     record { entered = search needs; sound = sym (f .sound-entries .ensures) ∙ c .before .before .if5 .taken }
 
@@ -44,13 +44,13 @@ returns-6 : tie.Need-returns-6
 returns-6 c =
     let f = c .before .before .before .before in
     let q = sym (f .sound-entries .ensures) ∙ c .before .before .before .if5 .taken in
-    c .cells-fit .ensures ∙ formed-cells _ (omega arith) (omega arith) (omega arith) q (omega arith)
+    c .cells-end .ensures ∙ extent-cells _ (omega arith) (omega arith) (omega arith) q (omega arith)
 
 returns-7 : tie.Need-returns-7
-returns-7 c = formed-unsound _ (omega arith) (omega arith) (omega arith) (sym (c .before .sound-entries .ensures) ∙ c .if5 .left)
+returns-7 c = extent-none _ (formed-unsound _ (omega arith) (omega arith) (omega arith) (sym (c .before .sound-entries .ensures) ∙ c .if5 .left))
 
-pub in-form-spec : {M : Type 1} → statement M
-in-form-spec =
+pub extent-spec : {M : Type 1} → statement M
+extent-spec =
     tie.close
     (tie.spec
     returns
@@ -62,6 +62,6 @@ in-form-spec =
     sound-entries-requires
     shared-slice-read-if6
     returns-5
-    cells-fit-requires
+    cells-end-requires
     returns-6
     returns-7)
