@@ -3,6 +3,7 @@
 -- Assumes nothing: these are definitions.
 use mathlib.Core.Path.{_≡_}
 use mathlib.Core.List.{List}
+use lib.ListN.{getD, set}
 use Prim.Native.Nat.{ℕ, suc, _+_, _^_}
 use Rattle.refusal.specs.Table.{packedOf}
 use Rattle.body.specs.declared.BodyCheck.{BodyCheck}
@@ -34,6 +35,15 @@ use Rattle.watcher.specs.declared.Opening.the-variants as Opens
 use Rattle.watcher.specs.declared.Ticking.{Ticking}
 use Rattle.watcher.specs.declared.Ticking.the-variants as Ticks
 use Rattle.watcher.specs.Answer.{RoomAnswers, OpenAnswers, TickAnswers}
+use Rattle.watcher.specs.declared.Feeding.{Feeding}
+use Rattle.watcher.specs.declared.Feeding.the-variants as Feeds
+use Rattle.watcher.specs.Feed.{FeedAnswers}
+use Rattle.watcher.specs.declared.set.SetTicking.{SetTicking}
+use Rattle.watcher.specs.declared.set.SetTicking.the-variants as Sets
+use Rattle.watcher.specs.Set.{SetAnswers}
+use Rattle.watcher.specs.SetFile.{SetRoomAnswers, SetOpenAnswers}
+use Rattle.tally.specs.declared.Tally.{Tally}
+use Rattle.tally.specs.Tallied.{addedTo, statusOf, after}
 
 -- the check of a body
 abbrev pub checkStatus : BodyCheck → ℕ
@@ -173,3 +183,43 @@ pub record LookedUp (answer : Finding) (from from′ long long′ status : ℕ) 
   pub place : from′ ≡ lookupFrom answer from
   pub bytes : long′ ≡ lookupLong answer long
   pub word : status ≡ lookupStatus answer
+
+-- many ticks
+abbrev pub feedStatus : Feeding → ℕ
+feedStatus Feeds.Fed = 0
+feedStatus (Feeds.Refused r) = packedOf r
+
+pub record StateFed (s ts ws old s′ new : List ℕ) (status : ℕ) : Type 0 where
+  pub answer : Feeding
+  pub promise : FeedAnswers s ts ws old s′ new answer
+  pub word : status ≡ feedStatus answer
+
+-- the room of a set, and its opening
+pub record SetRoomTold (f : List ℕ) (words words′ status : ℕ) : Type 0 where
+  pub answer : Needed
+  pub promise : SetRoomAnswers f answer
+  pub lent : words′ ≡ roomWords answer words
+  pub word : status ≡ roomStatus answer
+
+pub record SetOpened (f old new : List ℕ) (status : ℕ) : Type 0 where
+  pub answer : Opening
+  pub promise : SetOpenAnswers f old new answer
+  pub word : status ≡ openStatus answer
+
+-- a set's tick
+abbrev pub setStatus : SetTicking → ℕ
+setStatus Sets.Ticked = 0
+setStatus (Sets.Refused r) = packedOf r
+
+pub record SetTaken (count : ℕ) (s old : List ℕ) (t w : ℕ) (s′ new : List ℕ) (status : ℕ) : Type 0 where
+  pub answer : SetTicking
+  pub promise : SetAnswers count s old t w s′ new answer
+  pub word : status ≡ setStatus answer
+
+-- a tally of two words: windows and ticks
+abbrev pub tallyOf : List ℕ → Tally
+tallyOf l = record { windows = getD l 0 0; ticks = getD l 1 0 }
+
+pub record TallyAdded (l l′ : List ℕ) (start end status : ℕ) : Type 0 where
+  pub words : l′ ≡ set (set l 0 (after (tallyOf l) (addedTo (tallyOf l) start end) .windows)) 1 (after (tallyOf l) (addedTo (tallyOf l) start end) .ticks)
+  pub word : status ≡ statusOf (addedTo (tallyOf l) start end)

@@ -6,11 +6,14 @@ use file::Whose;
 use file::Writing;
 use plain::Evaluation;
 use plain::Start;
+use tally::Tally;
 use text::Printing;
 use text::Reading;
+use watcher::Feeding;
 use watcher::Needed;
 use watcher::Opening;
 use watcher::Ticking;
+use watcher::set::SetTicking;
 ghost use mathlib.Core.Path.{_≡_};
 ghost use Prim.Native.Nat.{_≤_};
 ghost use Rattle.rules.specs.Limits.{argumentBytes};
@@ -18,6 +21,7 @@ ghost use Rattle.rules.specs.Bits.{onesBelow};
 ghost use Rattle.body.specs.Check.{checkOf};
 ghost use Rattle.file.specs.Check.{checkOf as fileCheckOf};
 ghost use Rattle.file.specs.Lookup.{findingOf};
+ghost use Rattle.mws.specs.Status.{StateFed, SetRoomTold, SetOpened, SetTaken, TallyAdded};
 ghost use Rattle.mws.specs.Status.{fileStatus, FileWritten, fileBits, LookedUp};
 ghost use Rattle.mws.specs.Status.{checkStatus, TextRead, TextPrinted, PlainDone, RowLatest, RoomTold, StateOpened, StateTicked};
 
@@ -193,4 +197,80 @@ pub extern "C" fn mws_watch_tick(state: &mut [u64], t: u64, events: u32, answer:
         }
         Ticking::Refused(r) => refusal::packed(r),
     }
+}
+
+// Takes many ticks, the state judged once; one answer a tick.
+#[no_mangle]
+pub extern "C" fn mws_watch_feed(
+    state: &mut [u64],
+    ticks: &[u64],
+    events: &[u32],
+    answers: &mut [u64],
+) -> u64
+    ensures { λ r. ⌜ StateFed (now (state .entry)) (now (ticks .entry)) (now (events .entry)) (now (answers .entry)) (now (state .exit)) (now (answers .exit)) r ⌝ }
+{
+    match watcher::feed(state, ticks, events, answers) {
+        Feeding::Fed => 0,
+        Feeding::Refused(r) => refusal::packed(r),
+    }
+}
+
+// The words that the states of a file's patterns take.
+#[no_mangle]
+pub extern "C" fn mws_set_room(file: &[u8], words: &mut u64) -> u64
+    ensures { λ r. ⌜ SetRoomTold (now (file .entry)) (now (words .entry)) (now (words .exit)) r ⌝ }
+{
+    match watcher::set::room(file) {
+        Needed::Words(n) => {
+            *words = n as u64;
+            0
+        }
+        Needed::Refused(r) => refusal::packed(r),
+    }
+}
+
+// Opens a state for each pattern of a file.
+#[no_mangle]
+pub extern "C" fn mws_set_open(file: &[u8], states: &mut [u64]) -> u64
+    ensures { λ r. ⌜ SetOpened (now (file .entry)) (now (states .entry)) (now (states .exit)) r ⌝ }
+{
+    match watcher::set::open(file, states) {
+        Opening::Opened => 0,
+        Opening::Refused(r) => refusal::packed(r),
+    }
+}
+
+// Takes a tick in each of `count` states; one answer a pattern.
+#[no_mangle]
+pub extern "C" fn mws_set_tick(
+    states: &mut [u64],
+    count: u64,
+    t: u64,
+    events: u32,
+    answers: &mut [u64],
+) -> u64
+    ensures { λ r. ⌜ SetTaken count (now (states .entry)) (now (answers .entry)) t events (now (states .exit)) (now (answers .exit)) r ⌝ }
+{
+    match watcher::set::tick(states, count, t, events, answers) {
+        SetTicking::Ticked => 0,
+        SetTicking::Refused(r) => refusal::packed(r),
+    }
+}
+
+// Adds a window to a tally, a record of two words.
+#[no_mangle]
+pub extern "C" fn mws_tally_add(tally: &mut [u64; 2], start: u64, end: u64) -> u64
+    ensures { λ r. ⌜ TallyAdded (now (tally .entry)) (now (tally .exit)) start end r ⌝ }
+{
+    let kept = tally::settled(
+        Tally {
+            windows: tally[0],
+            ticks: tally[1],
+        },
+        start,
+        end,
+    );
+    tally[0] = kept.tally.windows;
+    tally[1] = kept.tally.ticks;
+    kept.status
 }

@@ -1,0 +1,49 @@
+-- `mws::mws_set_open` meets its contract: the call's own promise, and the word of its answer. Assumes nothing.
+use mathlib.Core.Path.{refl, sym, ap, subst, _∙_}
+use Rattle.watcher.specs.declared.Opening.the-variants.{Opened, Refused}
+use Rattle.watcher.specs.SetFile.{SetOpenAnswers}
+use native.Mathlib.Omega.{arith}
+use borrow.Author.Needs.{needs}
+use Rattle.mws.proofs.mws_set_open.Statement.{statement}
+use Rattle.mws.proofs.mws_set_open.Tie as tie
+
+open-requires : tie.Need-open-requires
+open-requires c κs = search needs
+
+enum-told : tie.Need-enum-told
+enum-told c = search needs
+
+enum-known-r : tie.Need-enum-known-r
+enum-known-r c = search needs
+
+packed-requires : tie.Need-packed-requires
+packed-requires c κs = search needs
+
+same-length : tie.Need-same-length
+same-length c = search needs
+
+returns : tie.Need-returns
+returns c =
+    let a = c .before .before .before .before in
+    record { answer = Opened; promise = subst (SetOpenAnswers _ _ _) (c .enum-told .given .1) (a .open .ensures); word = refl }
+
+same-length-2 : tie.Need-same-length-2
+same-length-2 c = search needs
+
+returns-2 : tie.Need-returns-2
+returns-2 c =
+    let a = c .before .before .before .before .before .before in
+    record { answer = Refused (c .before .before .r .given .0 .0); promise = subst (SetOpenAnswers _ _ _) (c .before .before .r .given .1) (a .open .ensures); word = c .packed .ensures }
+
+pub mws-set-open-spec : {M : Type 1} → statement M
+mws-set-open-spec =
+    tie.close
+    (tie.spec
+    open-requires
+    enum-told
+    enum-known-r
+    packed-requires
+    same-length
+    returns
+    same-length-2
+    returns-2)

@@ -1,0 +1,34 @@
+-- `mws::mws_set_room` meets its contract: the call's own promise, and the word of its answer. Assumes nothing.
+use mathlib.Core.Path.{refl, sym, ap, subst, _∙_}
+use Rattle.watcher.specs.declared.Needed.the-variants.{Words, Refused}
+use Rattle.watcher.specs.SetFile.{SetRoomAnswers}
+use native.Mathlib.Omega.{arith}
+use borrow.Author.Needs.{needs}
+use Rattle.mws.proofs.mws_set_room.Statement.{statement}
+use Rattle.mws.proofs.mws_set_room.Tie as tie
+
+room-requires : tie.Need-room-requires
+room-requires c κs = search needs
+
+enum-known-n : tie.Need-enum-known-n
+enum-known-n c = search needs
+
+enum-known-r : tie.Need-enum-known-r
+enum-known-r c = search needs
+
+packed-requires : tie.Need-packed-requires
+packed-requires c κs = search needs
+
+returns : tie.Need-returns
+returns c =
+    let a = c .before .before .before in
+    record { answer = Words (c .before .n .given .0 .0); promise = subst (SetRoomAnswers _) (c .before .n .given .1) (a .room .ensures); lent = refl; word = refl }
+
+returns-2 : tie.Need-returns-2
+returns-2 c =
+    let a = c .before .before .before .before in
+    record { answer = Refused (c .before .before .r .given .0 .0); promise = subst (SetRoomAnswers _) (c .before .before .r .given .1) (a .room .ensures); lent = refl; word = c .packed .ensures }
+
+pub mws-set-room-spec : {M : Type 1} → statement M
+mws-set-room-spec =
+    tie.close (tie.spec room-requires enum-known-n enum-known-r packed-requires returns returns-2)

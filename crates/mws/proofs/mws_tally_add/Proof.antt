@@ -1,0 +1,41 @@
+-- `mws::mws_tally_add` meets its contract: the two words become those of the tally to keep. Assumes nothing.
+use mathlib.Core.Path.{refl, sym, ap, subst, _∙_}
+use Rattle.tally.specs.declared.Tally.{Tally}
+use lib.ListN.{set}
+use native.Mathlib.Omega.{arith}
+use borrow.Author.Needs.{needs}
+use Rattle.mws.proofs.mws_tally_add.Statement.{statement}
+use Rattle.mws.proofs.mws_tally_add.Tie as tie
+
+element-copy-out-t7 : tie.Need-element-copy-out-t7
+element-copy-out-t7 c = search needs
+
+element-copy-out-t10 : tie.Need-element-copy-out-t10
+element-copy-out-t10 c = search needs
+
+settled-requires : tie.Need-settled-requires
+settled-requires c κs = search needs
+
+element-write-tally : tie.Need-element-write-tally
+element-write-tally c = search needs
+
+element-write-tally-2 : tie.Need-element-write-tally-2
+element-write-tally-2 c = search needs
+
+returns : tie.Need-returns
+returns c =
+    record {
+      words = ap (λ (t : Tally). set (set (c .before .before .before .args .tally .now) 0 (t .windows)) 1 (t .ticks)) (c .settled .ensures .1);
+      word = c .settled .ensures .0;
+    }
+
+pub mws-tally-add-spec : {M : Type 1} → statement M
+mws-tally-add-spec =
+    tie.close
+    (tie.spec
+    element-copy-out-t7
+    element-copy-out-t10
+    settled-requires
+    element-write-tally
+    element-write-tally-2
+    returns)
