@@ -1,6 +1,6 @@
 -- The claims on feeding, proved: ticks taken one after the other are those of the walk, and none of them has a fault. Assumes nothing.
-use Prim.Native.Nat.{ℕ, zero, suc, _+_, _≤_, _<_}
-use mathlib.Core.Path.{_≡_, refl, sym, ap, subst, _∙_}
+use Prim.Native.Nat.{ℕ, zero, suc, _+_}
+use mathlib.Core.Path.{_≡_, refl, sym, ap, _∙_}
 use mathlib.Core.List.{List, [], _∷_, _++_, append-assoc, append-nil}
 use native.Mathlib.Decide.{decLe, decLt}
 use native.Mathlib.Numerals.{add-one}
@@ -39,7 +39,8 @@ fed-as-walked (k ∷ h) (more t w a i x) =
     (rw (u .0, v .0, u .1), rw (v .1, u .1))
 
 -- no tick has a fault
-fed-faultless : (ts ws : List ℕ) (i : ℕ) {s l s′ : List ℕ} → length ts ≡ length ws → AllTicked s (paired ts ws) l s′ → firstFault i (getD s 1 0) ts ≡ Fed
+fed-faultless : (ts ws : List ℕ) (i : ℕ) {s l s′ : List ℕ} → length ts ≡ length ws → AllTicked s (paired ts ws) l s′
+    → firstFault i (getD s 1 0) ts ≡ Fed
 unfolding paired firstFault
 fed-faultless [] ws i e x = refl
 fed-faultless (t ∷ ts) [] i e x = absurd (omega arith)

@@ -1,23 +1,21 @@
 -- Many ticks: a state stays in form after each, so all are taken if none is over the limit or below the next allowed; and a turn of the loop that
 -- takes them leads to the end of all. Assumes nothing.
 use Prim.Native.Nat.{ℕ, suc, _+_, _≤_, _<_}
-use mathlib.Core.Path.{_≡_, refl, sym, ap, subst, _∙_}
+use mathlib.Core.Path.{_≡_, refl, sym, _∙_}
 use mathlib.Core.Bool.{true, false}
 use mathlib.Core.List.{List, [], _∷_, _++_, append-assoc, append-nil}
 use native.Mathlib.Decide.{decLe, decLt}
 use native.Mathlib.Numerals.{add-one}
 use native.Mathlib.Omega.{arith}
-use lib.ListN.{length, getD, take, drop, set, length-set, length-drop, take-append-drop, drop-of-length-le}
-use lib.Seq.{drop-cons, drop-set-lt, take-suc-set, take-all}
+use lib.ListN.{length, getD, take, drop, set, length-set, take-append-drop, drop-of-length-le}
+use lib.Seq.{drop-cons, drop-set-lt, take-suc-set}
 use Rattle.rules.specs.Decisions.{pick}
 use Rattle.rules.specs.Limits.{ticks}
-use Rattle.rules.specs.History.{Tick}
 use Rattle.rules.proofs.Decisions.{pick-yes, pick-no}
 use Rattle.detector.specs.Step.{next}
 use Rattle.detector.proofs.Form.{in-form}
 use Rattle.refusal.specs.declared.Refusal.{Refusal}
 use Rattle.refusal.specs.declared.Refusal.the-variants.{State, Range, Late}
-use Rattle.watcher.specs.declared.Feeding.{Feeding}
 use Rattle.watcher.specs.declared.Feeding.the-variants.{Fed, Refused}
 use Rattle.watcher.specs.State.{InForm}
 use Rattle.watcher.specs.Answer.{IsTicked}
@@ -26,7 +24,7 @@ use Rattle.watcher.specs.Feed.{paired, AllTicked, none, more, firstFault
 use Rattle.watcher.specs.Step.{FeedReady, FeedDone}
 use Rattle.watcher.proofs.States.{next-word}
 use Rattle.watcher.proofs.Judges.{formed-exactly}
-use Rattle.watcher.proofs.Calls.{walked-as-ticked, ticked-as-walked}
+use Rattle.watcher.proofs.Calls.{walked-as-ticked}
 
 -- a state stays in form
 abbrev pub ticked-form : {s s′ : List ℕ} {t w a : ℕ} → IsTicked s s′ t w a → InForm s′
@@ -152,7 +150,8 @@ module _ {s₀ ts ws old s new : List ℕ} {i : ℕ} (r : FeedReady s₀ ts ws o
     feeds-range = first .range
 
     -- a tick is taken, and its answer written
-    pub feeds-more : (s′ : List ℕ) (a : ℕ) → length s′ ≡ length s → a ≡ answerOf (getD ts i 0) (getD ws i 0) s → s′ ≡ wordsAfter (getD ts i 0) (getD ws i 0) s
+    pub feeds-more : (s′ : List ℕ) (a : ℕ) → length s′ ≡ length s → a ≡ answerOf (getD ts i 0) (getD ws i 0) s
+        → s′ ≡ wordsAfter (getD ts i 0) (getD ws i 0) s
         → Feeds s₀ ts ws old s′ (set new i a) (i + 1)
     unfolding answersFed wordsFed
     feeds-more s′ a l p q =

@@ -1,15 +1,15 @@
 -- A state at the front of a slice: the words that it has are a state without words beyond, and those after them are the words beyond.
 -- Assumes nothing.
-use Prim.Native.Nat.{ℕ, _+_, _-_, _≤_, _<_}
-use mathlib.Core.Path.{_≡_, refl, sym, ap, subst, _∙_}
-use mathlib.Core.Bool.{true, false}
-use mathlib.Core.List.{List, [], _∷_, _++_, append-nil}
+use Prim.Native.Nat.{ℕ, _≤_}
+use mathlib.Core.Path.{_≡_, sym, ap, _∙_}
+use mathlib.Core.Bool.{true}
+use mathlib.Core.List.{List, [], append-nil}
 use mathlib.Core.Option.{some}
 use native.Mathlib.Omega.{arith}
-use lib.ListN.{length, getD, take, drop, length-append, take-append-drop}
+use lib.ListN.{length, getD, take, drop, length-append}
 use lib.Seq.{take-at, drop-at, length-take-le}
 use Rattle.watcher.specs.State.{stateOf, InForm}
-use Rattle.watcher.specs.Walk.{judged, formed, extent}
+use Rattle.watcher.specs.Walk.{formed, extent}
 use Rattle.watcher.proofs.States.{next-word, state-long}
 use Rattle.watcher.proofs.Judges.{formed-exactly, in-form-extent, in-form-cells}
 

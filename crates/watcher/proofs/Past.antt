@@ -1,8 +1,8 @@
 -- The states of a set, one after the other: what lies past n of them is fixed by the words, so a set has one fault at most. Assumes nothing.
-use Prim.Native.Nat.{ℕ, zero, suc, _-_, _≤_, _<_}
+use Prim.Native.Nat.{ℕ, zero, suc, _≤_, _<_}
 use mathlib.Core.Path.{_≡_, refl, sym, ap, subst, _∙_}
-use mathlib.Core.List.{List, [], _∷_, _++_, append-assoc, append-nil}
-use mathlib.Core.Option.{Option, some}
+use mathlib.Core.List.{List, [], _++_, append-nil}
+use mathlib.Core.Option.{some}
 use native.Mathlib.Decide.{decLt}
 use native.Mathlib.Omega.{arith}
 use lib.ListN.{length, take, getD, length-append}
@@ -84,7 +84,8 @@ one-fault (below k l b h u q f m e) (below k′ l′ b′ h′ u′ q′ f′ m�
 module _ {p : List ℕ} (f : InForm p) (e : f .beyond ≡ []) (s r : List ℕ) (q : s ≡ p ++ r) where
   pub front-same : s ≡ stateOf (f .pattern) (f .next) (f .memory) ++ r
   front-same =
-      let k : p ≡ stateOf (f .pattern) (f .next) (f .memory) = f .same ∙ ap (λ (l : List ℕ). stateOf (f .pattern) (f .next) (f .memory) ++ l) e ∙ append-nil _ in
+      let k : p ≡ stateOf (f .pattern) (f .next) (f .memory) =
+      f .same ∙ ap (λ (l : List ℕ). stateOf (f .pattern) (f .next) (f .memory) ++ l) e ∙ append-nil _ in
       q ∙ ap (λ (l : List ℕ). l ++ r) k
 
   abbrev pub front : InForm s

@@ -1,10 +1,10 @@
 -- Each pattern of a set has its part of the slice, which is as if it were watched alone: so after opening, and after each tick. Assumes nothing.
-use Prim.Native.Nat.{ℕ, zero, suc, _≤_, _<_}
+use Prim.Native.Nat.{ℕ, zero, suc, _≤_}
 use mathlib.Core.Path.{_≡_, refl, sym, ap, subst, _∙_}
 use mathlib.Core.List.{List, [], _∷_, _++_, append-assoc, append-nil}
 use native.Mathlib.Omega.{arith}
 use lib.ListN.{length, getD, drop, replicate, length-replicate, drop-of-length-le}
-use Rattle.rules.specs.Limits.{argumentBytes, ticks}
+use Rattle.rules.specs.Limits.{argumentBytes}
 use Rattle.rules.specs.Lists.{All}
 use Rattle.rules.specs.Pattern.{Pattern}
 use Rattle.rules.specs.Instances.{Has, Latest}
@@ -97,7 +97,8 @@ answer-right e b {h} {p} {p′} t w (suc a) x l i =
     let r = agrees (encode argumentBytes e) e (body e b) h p p′ x t w (Window a) l (i .range) i in
     subst (Latest (Has (recordOf (h ++ ((t, w) ∷ []))) e) t) (r .1) (r .2)
 
-pub alones-right : (es : List Pattern) {h : List Tick} {t w : ℕ} {s s′ l : List ℕ} → Alones h es s → nextTick 0 h ≤ t → SetTicked t w (length es) s s′ l
+pub alones-right : (es : List Pattern) {h : List Tick} {t w : ℕ} {s s′ l : List ℕ} → Alones h es s → nextTick 0 h ≤ t
+    → SetTicked t w (length es) s s′ l
     → AllLatest (recordOf (h ++ ((t, w) ∷ []))) t es l
 alones-right [] x n Sets.none = tt
 alones-right (e ∷ es) {t = t} {w = w} {s = s} (more p r q b x f k z) n (Sets.more {a = a} {r = r₁} i m y u v) =

@@ -1,6 +1,6 @@
 -- A sound file holds patterns; and a walk over its contents and bodies, a pattern at a time. Assumes nothing.
 use Prim.Native.Nat.{ℕ, zero, suc, _+_, _-_, _*_, _≤_, _<_}
-use mathlib.Core.Path.{_≡_, refl, sym, ap, ap₂, subst, _∙_}
+use mathlib.Core.Path.{_≡_, refl, sym, ap, ap₂, _∙_}
 use mathlib.Core.List.{List, [], _∷_, _++_}
 use mathlib.Core.Option.{none}
 use native.Mathlib.Nat.{sub-zero}
@@ -149,7 +149,8 @@ module _ {f : List ℕ} {count i at : ℕ} {rest : List Pattern} (x : Ahead f co
           let long : length (encode argumentBytes e) ≡ 5 * n = omega (arith, length-encode argumentBytes e) in
           let bytes : at + 5 * n - at ≡ 5 * n = omega arith in
           let next : 1 + contentsBytes * i + contentsBytes ≡ 1 + contentsBytes * (i + 1) = omega arith in
-          let k : at + 5 * n ≤ length f = omega (arith, ap length v, length-drop at f, length-append (encode argumentBytes e) (bodiesOf es), x .within) in
+          let k : at + 5 * n ≤ length f =
+          omega (arith, ap length v, length-drop at f, length-append (encode argumentBytes e) (bodiesOf es), x .within) in
           record {
             pattern = e;
             others = es;

@@ -1,8 +1,8 @@
 -- The judge of a set, a turn at a time: the states so far are in form, their ends are kept, and so is the lowest late one. Assumes nothing.
-use Prim.Native.Nat.{ℕ, suc, _+_, _-_, _≤_, _<_}
-use mathlib.Core.Path.{_≡_, refl, sym, ap, subst, _∙_}
-use mathlib.Core.Bool.{true, false}
-use mathlib.Core.List.{List, [], _∷_, _++_}
+use Prim.Native.Nat.{ℕ, _+_, _-_, _≤_, _<_}
+use mathlib.Core.Path.{_≡_, refl, sym, subst, _∙_}
+use mathlib.Core.Bool.{true}
+use mathlib.Core.List.{List}
 use native.Mathlib.Decide.{decLt}
 use native.Mathlib.Numerals.{add-one}
 use native.Mathlib.Omega.{arith}
@@ -14,7 +14,7 @@ use Rattle.refusal.specs.declared.Refusal.the-variants.{State, Late}
 use Rattle.watcher.specs.State.{InForm}
 use Rattle.watcher.specs.Walk.{formed, extent}
 use Rattle.watcher.specs.Set.{Past, none, more, SetFault, broken, below}
-use Rattle.watcher.specs.Sets.{lateAfter, PartReady, PartsReady, EndsReady}
+use Rattle.watcher.specs.SetCalls.{lateAfter, PartsReady, EndsReady}
 use Rattle.watcher.proofs.States.{next-word}
 use Rattle.watcher.proofs.Judges.{formed-exactly, extent-formed, extent-broken}
 use Rattle.watcher.proofs.Parts.{beyond-is, extent-le, two-le}
@@ -66,7 +66,10 @@ module _ {n : ℕ} {s : List ℕ} {t : ℕ} {ends : List ℕ} {i at late : ℕ} 
       go (found l m p f q) = below late m (drop at s) l past p f q refl
 
   pub set-judging-end : n ≤ i → n ≤ late → PartsReady n s t ends
-  set-judging-end h k = record { first = x .first; each = λ j l. record { form = x .form j (omega arith); end = x .end j (omega arith); late = go (x .lates) j l } }
+  set-judging-end h k = record {
+    first = x .first;
+    each = λ j l. record { form = x .form j (omega arith); end = x .end j (omega arith); late = go (x .lates) j l };
+  }
     where
       go : Lates n s t ends i at late → (j : ℕ) → j < n → getD (drop (getD ends j 0) s) 1 0 ≤ t
       go (allowed e p f) j l = f j (omega arith)

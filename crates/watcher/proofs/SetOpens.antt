@@ -1,24 +1,21 @@
 -- The loops over a sound file's patterns: the rooms summed, and the states opened, a pattern at a time. Assumes nothing.
 use Prim.Native.Nat.{ℕ, _+_, _-_, _*_, _≤_, _<_}
-use mathlib.Core.Path.{_≡_, refl, sym, ap, subst, _∙_}
-use mathlib.Core.List.{List, [], _∷_, _++_, append-assoc, append-nil}
+use mathlib.Core.Path.{_≡_, refl, sym, ap, _∙_}
+use mathlib.Core.List.{List, [], _++_, append-assoc, append-nil}
 use native.Mathlib.Omega.{arith}
-use lib.ListN.{length, getD, take, drop, length-append, length-drop, take-append-drop, drop-of-length-le}
-use lib.Seq.{drop-drop}
-use borrow.Rule.Slice.PartMut.{midOf, putMid, same-len-mid, mid-len, drop-put}
-use Rattle.rules.specs.Limits.{argumentBytes, mostPatterns}
-use Rattle.rules.specs.Pattern.{Pattern, size}
+use lib.ListN.{length, getD, take, drop, take-append-drop, drop-of-length-le}
+use borrow.Rule.Slice.PartMut.{midOf, putMid, same-len-mid, post-is, mid-len, drop-put}
+use Rattle.rules.specs.Limits.{argumentBytes}
+use Rattle.rules.specs.Pattern.{Pattern}
 use Rattle.detector.specs.Memory.{fresh}
 use Rattle.body.specs.declared.BodyCheck.the-variants as Bodies
 use Rattle.body.specs.Check.{checkOf as bodyCheck}
-use Rattle.body.specs.Claim.{BodyOf}
-use Rattle.body.specs.Postfix.{encode}
 use Rattle.body.proofs.Bodies.{length-encode, encode-sound}
 use Rattle.watcher.specs.State.{stateOf, roomOf}
 use Rattle.watcher.specs.Walk.{cellsNeeded, wordsOpened}
 use Rattle.watcher.specs.Form.{OpenReady}
 use Rattle.watcher.specs.SetFile.{roomsOf, statesOf, Holds, IsSetOpened}
-use Rattle.watcher.specs.Sets.{RoomSummed, SetOpenReady}
+use Rattle.watcher.specs.SetCalls.{RoomSummed, SetOpenReady}
 use Rattle.watcher.proofs.Opens.{body-cells, body-opened}
 use Rattle.watcher.proofs.Lent.{put-front}
 use Rattle.watcher.proofs.SetFiles.{Ahead, Next, ahead-start, ahead-end, ahead-more}
@@ -64,7 +61,8 @@ module _ {f : List ℕ} {count words at i : ℕ} (x : Summing f count words at i
     pub summing-next : Next f count i at (x .rest) n
     summing-next = ahead-more (x .ahead) h n r
 
-    pub summing-more : (cells : ℕ) → cells ≡ cellsNeeded (part summing-next) → cells ≤ 7938 → Summing f count (words + (2 + n + cells)) (at + 5 * n) (i + 1)
+    pub summing-more : (cells : ℕ) → cells ≡ cellsNeeded (part summing-next) → cells ≤ 7938
+        → Summing f count (words + (2 + n + cells)) (at + 5 * n) (i + 1)
     unfolding roomsOf
     summing-more cells q l =
         let z = summing-next in
@@ -141,7 +139,8 @@ module _ {f old : List ℕ} {count : ℕ} {s : List ℕ} {at from i : ℕ} (x : 
         room = omega (arith, mid-len from to s opening-within);
       }
 
-      module _ (p : List ℕ) (w : p ≡ wordsOpened (part opening-next) (midOf from (to - from) s)) (l : length p ≡ length (midOf from (to - from) s)) where
+      module _ (p : List ℕ) (w : p ≡ wordsOpened (part opening-next) (midOf from (to - from) s))
+          (l : length p ≡ length (midOf from (to - from) s)) where
         state : p ≡ stateOf (opening-next .pattern) 0 (fresh (opening-next .pattern))
         state =
             let e : Pattern = opening-next .pattern in
@@ -153,9 +152,6 @@ module _ {f old : List ℕ} {count : ℕ} {s : List ℕ} {at from i : ℕ} (x : 
 
         length-state : length p ≡ to - from
         length-state = l ∙ mid-len from to s opening-within
-
-        after : (z : List ℕ) → drop (to - from) (drop from z) ≡ drop to z
-        after z = let e : from + (to - from) ≡ to = omega arith in drop-drop (to - from) from z ∙ ap (λ (k : ℕ). drop k z) e
 
         pub opening-more : SetOpening f old count (putMid from (to - from) s p) (at + 5 * n) to (i + 1)
         unfolding statesOf
@@ -171,7 +167,10 @@ module _ {f old : List ℕ} {count : ℕ} {s : List ℕ} {at from i : ℕ} (x : 
               sum = omega (arith, own, rooms, x .sum);
               long = same-len-mid from (to - from) s p l ∙ x .long;
               kept =
-                  drop-put from to s p ends opening-within length-state ∙ sym (after s) ∙ ap (drop (to - from)) (x .kept) ∙ after old;
+                  drop-put from to s p ends opening-within length-state
+                  ∙ sym (post-is from to s ends)
+                  ∙ ap (drop (to - from)) (x .kept)
+                  ∙ post-is from to old ends;
               words =
                   rw (put-front from to s p ends opening-within length-state, append-assoc (take from s) p, state)
                   (rw (z .same) at (x .words));

@@ -1,21 +1,18 @@
 -- The steps of a set, a turn at a time: the states ahead are as they were, and once they are stepped all are. Assumes nothing.
 use Prim.Native.Nat.{ℕ, suc, _+_, _-_, _≤_, _<_}
 use mathlib.Core.Path.{_≡_, refl, sym, ap, subst, _∙_}
-use mathlib.Core.Bool.{true}
 use mathlib.Core.List.{List, [], _∷_, _++_, append-assoc, append-nil}
 use native.Mathlib.Nat.{sub-zero}
 use native.Mathlib.Numerals.{add-one}
 use native.Mathlib.Omega.{arith}
 use lib.ListN.{length, getD, take, drop, set, length-set, length-drop, take-append-drop}
-use lib.Seq.{drop-drop, drop-set-lt, take-suc-set}
-use borrow.Rule.Slice.PartMut.{midOf, putMid, same-len-mid, mid-len, drop-put}
-use Rattle.rules.specs.Limits.{mostPatterns, ticks}
-use Rattle.watcher.specs.State.{InForm}
+use lib.Seq.{drop-set-lt, take-suc-set}
+use borrow.Rule.Slice.PartMut.{midOf, putMid, same-len-mid, post-is, mid-len, drop-put}
 use Rattle.watcher.specs.Answer.{IsTicked}
-use Rattle.watcher.specs.Walk.{formed, extent, answerOf, wordsAfter}
+use Rattle.watcher.specs.Walk.{extent}
 use Rattle.watcher.specs.Step.{StepsReady, StepsDone}
 use Rattle.watcher.specs.Set.{SetTicked, none, more, Few, IsSetTicked}
-use Rattle.watcher.specs.Sets.{PartReady, PartsReady, SetReady, SetDone}
+use Rattle.watcher.specs.SetCalls.{PartReady, SetReady, SetDone}
 use Rattle.watcher.proofs.Calls.{walked-as-ticked}
 use Rattle.watcher.proofs.Lent.{put-front}
 use Rattle.watcher.proofs.Parts.{extent-le, alone-formed, alone-next, alone-beyond}
@@ -43,7 +40,8 @@ set-stepping-start {n} {s} {t} w r =
       kept = refl;
     }
 
-module _ {n : ℕ} {s₀ : List ℕ} {t w : ℕ} {ends old s new : List ℕ} {i : ℕ} (r : SetReady n s₀ t ends old) (x : SetStepping n s₀ t w ends old s new i) where
+module _ {n : ℕ} {s₀ : List ℕ} {t w : ℕ} {ends old s new : List ℕ} {i : ℕ} (r : SetReady n s₀ t ends old)
+    (x : SetStepping n s₀ t w ends old s new i) where
   pub set-stepping-end : n ≤ i → SetDone n s₀ t w old s new
   set-stepping-end h =
       let e : n - i ≡ 0 = omega arith in
@@ -100,11 +98,10 @@ module _ {n : ℕ} {s₀ : List ℕ} {t w : ℕ} {ends old s new : List ℕ} {i 
       length-part : length p ≡ end - at
       length-part = l ∙ mid-len at end s set-stepping-within
 
-      after : (z : List ℕ) → drop (end - at) (drop at z) ≡ drop end z
-      after z = let e : at + (end - at) ≡ end = omega (arith, set-stepping-ends) in drop-drop (end - at) at z ∙ ap (λ (k : ℕ). drop k z) e
-
       split : ahead ≡ take (extent ahead) ahead ++ drop end s₀
-      split = sym (take-append-drop (extent ahead) ahead) ∙ ap (λ (z : List ℕ). take (extent ahead) ahead ++ z) (rw (← words) (after s₀))
+      split =
+          sym (take-append-drop (extent ahead) ahead)
+          ∙ ap (λ (z : List ℕ). take (extent ahead) ahead ++ z) (rw (← words) (post-is at end s₀ set-stepping-ends))
 
       front : take end (putMid at (end - at) s p) ≡ take at s ++ p
       front = put-front at end s p set-stepping-ends set-stepping-within length-part
@@ -116,7 +113,11 @@ module _ {n : ℕ} {s₀ : List ℕ} {t w : ℕ} {ends old s new : List ℕ} {i 
         state-long = same-len-mid at (end - at) s p l ∙ x .state-long;
         long = length-set new i a ∙ x .long;
         within = omega (arith, set-stepping-within, x .state-long);
-        ahead = drop-put at end s p set-stepping-ends set-stepping-within length-part ∙ sym (after s) ∙ ap (drop (end - at)) (x .ahead) ∙ after s₀;
+        ahead =
+            drop-put at end s p set-stepping-ends set-stepping-within length-part
+            ∙ sym (post-is at end s set-stepping-ends)
+            ∙ ap (drop (end - at)) (x .ahead)
+            ∙ post-is at end s₀ set-stepping-ends;
         rest = λ m k y. more-rest m k y;
         kept = drop-set-lt n new i a h ∙ x .kept;
       }
@@ -125,9 +126,11 @@ module _ {n : ℕ} {s₀ : List ℕ} {t w : ℕ} {ends old s new : List ℕ} {i 
               → SetTicked t w n s₀ (take end (putMid at (end - at) s p) ++ m) (take (i + 1) (set new i a) ++ k)
           more-rest m k y =
               let e : n - i ≡ suc (n - (i + 1)) = omega arith in
-              let u : SetTicked t w (n - i) ahead (p ++ m) (a ∷ k) = rw e (more ticked (alone-beyond ahead (part .form) (ticked .form)) y split refl) in
+              let u : SetTicked t w (n - i) ahead (p ++ m) (a ∷ k) =
+              rw e (more ticked (alone-beyond ahead (part .form) (ticked .form)) y split refl) in
               let j : i < length new = omega (arith, x .long, r .room) in
-              rw (front, append-assoc (take at s) p, add-one i, take-suc-set new i a j, append-assoc (take i new) (a ∷ [])) (x .rest (p ++ m) (a ∷ k) u)
+              rw (front, append-assoc (take at s) p, add-one i, take-suc-set new i a j, append-assoc (take i new) (a ∷ []))
+              (x .rest (p ++ m) (a ∷ k) u)
 
 -- so the set took the tick
 pub set-taken : {n : ℕ} {s : List ℕ} {t w : ℕ} {ends old s′ new : List ℕ} → Few n → SetReady n s t ends old → SetDone n s t w old s′ new

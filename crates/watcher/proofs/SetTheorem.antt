@@ -1,11 +1,11 @@
 -- Each claim of specs/SetClaim, proved. Assumes nothing.
-use Prim.Native.Nat.{ℕ, zero, suc, _≤_, _<_}
+use Prim.Native.Nat.{ℕ, zero, suc}
 use mathlib.Core.Path.{_≡_, refl, sym, ap, ap₂, subst, _∙_}
 use mathlib.Core.List.{List, [], _∷_, _++_}
 use native.Mathlib.Omega.{arith}
-use lib.ListN.{length, take, drop, length-append}
+use lib.ListN.{length, take, drop}
 use lib.Seq.{take-at, drop-at}
-use Rattle.rules.specs.Limits.{argumentBytes, ticks}
+use Rattle.rules.specs.Limits.{argumentBytes}
 use Rattle.rules.specs.Lists.{All}
 use Rattle.rules.specs.Pattern.{Pattern, size}
 use Rattle.rules.specs.History.{Tick}
@@ -19,7 +19,6 @@ use Rattle.file.proofs.Theorem.{one-way}
 use Rattle.watcher.specs.declared.Needed.the-variants as Needs
 use Rattle.watcher.specs.declared.Opening.the-variants as Opens
 use Rattle.watcher.specs.declared.set.SetTicking.the-variants.{Ticked, Refused}
-use Rattle.watcher.specs.Answer.{IsTicked}
 use Rattle.watcher.specs.Set.{SetTicked, Few, IsSetTicked, SetRefused, many, short, over, fault}
 use Rattle.watcher.specs.Set as Sets
 use Rattle.watcher.specs.SetFile.{sizes, bodiesOf, roomsOf, statesOf, Holds, IsSetOpened, SetOpenRefused}
@@ -31,8 +30,8 @@ use Rattle.watcher.proofs.SetAlones.{Alones, alones-each, alones-opened
 use Rattle.watcher.proofs.SetFiles.{holds-sound}
 
 -- a file holds one list of patterns
-same-patterns : (es es′ : List Pattern) → All (Bodied argumentBytes) es → All (Bodied argumentBytes) es′ → sizes es ≡ sizes es′ → bodiesOf es ≡ bodiesOf es′
-    → es ≡ es′
+same-patterns : (es es′ : List Pattern) → All (Bodied argumentBytes) es → All (Bodied argumentBytes) es′
+    → sizes es ≡ sizes es′ → bodiesOf es ≡ bodiesOf es′ → es ≡ es′
 unfolding sizes bodiesOf
 same-patterns [] [] b b′ p q = refl
 same-patterns [] (e′ ∷ es′) b b′ p q = let z : _≡_ {A = ℕ} 0 1 = cc in absurd (omega arith)
@@ -98,7 +97,7 @@ set-agrees f es h s x s′ old new t w (Refused r) l k m i = absurd (not-refused
 -- the parts of a set are fixed by its words, so accepted ticks agree
 one-taken : (n : ℕ) {t w : ℕ} {s s′ s″ l l′ : List ℕ} → SetTicked t w n s s′ l → SetTicked t w n s s″ l′ → (s′ ≡ s″) × (l ≡ l′)
 one-taken zero Sets.none Sets.none = (refl, refl)
-one-taken (suc n) {t = t} {w = w} {s = s} (Sets.more {a = a} {p′ = p} {r = r} {r′ = o} {l = l} i e x q v) (Sets.more {a = a₁} {p′ = p₁} {r = r₁} {r′ = o₁} {l = l₁} i₁ e₁ x₁ q₁ v₁) =
+one-taken (suc n) {s = s} (Sets.more {a = a} {p′ = p} {r = r} i e x q v) (Sets.more {a = a₁} {p′ = p₁} {r = r₁} i₁ e₁ x₁ q₁ v₁) =
     let c = one-front (i .form) (i₁ .form) e e₁ s r r₁ q q₁ in
     let k = ticked-as-walked i in
     let k₁ = ticked-as-walked i₁ in
@@ -107,7 +106,8 @@ one-taken (suc n) {t = t} {w = w} {s = s} (Sets.more {a = a} {p′ = p} {r = r} 
     let words : p ≡ p₁ = k .1 ∙ rw (c .0) (sym (k₁ .1)) in
     (v ∙ ap₂ (λ (y z : List ℕ). y ++ z) words (m .0) ∙ sym v₁, ap₂ (λ (y : ℕ) (z : List ℕ). y ∷ z) answers (m .1))
 
-taken-refused : {count : ℕ} {s old : List ℕ} {t w : ℕ} {s′ new : List ℕ} {r : Refusal} → IsSetTicked count s old t w s′ new → SetRefused count s old t r → ⊥
+taken-refused : {count : ℕ} {s old : List ℕ} {t w : ℕ} {s′ new : List ℕ} {r : Refusal} → IsSetTicked count s old t w s′ new
+    → SetRefused count s old t r → ⊥
 taken-refused i (many n q) = n (i .few)
 taken-refused i (short c u q) = omega (arith, i .room)
 taken-refused i (over c u v q) = omega (arith, i .range)

@@ -6,6 +6,6 @@ pub mod Feed
 pub mod Step
 pub mod Set
 pub mod SetFile
-pub mod Sets
+pub mod SetCalls
 pub mod Claim
 pub mod SetClaim

@@ -12,7 +12,6 @@ use Rattle.watcher.specs.declared.Needed.{Needed}
 use Rattle.watcher.specs.declared.Opening.{Opening}
 use Rattle.watcher.specs.declared.set.SetTicking.{SetTicking}
 use Rattle.watcher.specs.declared.set.SetTicking.the-variants.{Ticked}
-use Rattle.watcher.specs.State.{InForm}
 use Rattle.watcher.specs.Set.{IsSetTicked, SetAnswers}
 use Rattle.watcher.specs.SetFile.{Holds, IsSetOpened, SetRoomAnswers, SetOpenAnswers}
 use Rattle.watcher.specs.Claim.{Watched}

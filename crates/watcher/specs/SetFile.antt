@@ -19,19 +19,22 @@ use Rattle.watcher.specs.declared.Opening.{Opening}
 use Rattle.watcher.specs.declared.Opening.the-variants as Opens
 use Rattle.watcher.specs.State.{stateOf, roomOf}
 
--- of patterns, in order: the numbers of entries, the bodies end to end, the words of all states, and the states as opened, each where the previous ends
+-- the numbers of entries of patterns, in order
 unfoldable pub sizes : List Pattern → List ℕ
 sizes [] = []
 sizes (e ∷ es) = size e ∷ sizes es
 
+-- their bodies end to end
 unfoldable pub bodiesOf : List Pattern → List ℕ
 bodiesOf [] = []
 bodiesOf (e ∷ es) = encode argumentBytes e ++ bodiesOf es
 
+-- the words of all their states
 unfoldable pub roomsOf : List Pattern → ℕ
 roomsOf [] = 0
 roomsOf (e ∷ es) = roomOf e + roomsOf es
 
+-- their states as opened, each beginning where the previous ends
 unfoldable pub statesOf : List Pattern → List ℕ
 statesOf [] = []
 statesOf (e ∷ es) = stateOf e 0 (fresh e) ++ statesOf es

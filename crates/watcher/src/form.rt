@@ -2,9 +2,8 @@
 use body::Depth;
 use body::Entry;
 ghost use mathlib.Core.Path.{_≡_};
-ghost use mathlib.Core.Bool.{true};
-ghost use Prim.Native.Nat.{_+_, _<_, _≤_};
-ghost use lib.ListN.{length, getD};
+ghost use Prim.Native.Nat.{_+_, _<_};
+ghost use lib.ListN.{length};
 ghost use Rattle.watcher.specs.Walk.{entryIn, extent};
 ghost use Rattle.watcher.specs.Form.{Entered, CellsReady, sounds, cellsEnd};
 

@@ -4,11 +4,10 @@ use crate::Opening;
 use file::FileCheck;
 use refusal::Refusal;
 ghost use mathlib.Core.Path.{_≡_};
-ghost use Prim.Native.Nat.{_+_, _≤_, _<_};
-ghost use lib.ListN.{length, getD};
+ghost use Prim.Native.Nat.{_+_, _<_};
 ghost use Rattle.watcher.specs.Set.{SetAnswers};
 ghost use Rattle.watcher.specs.SetFile.{SetRoomAnswers, SetOpenAnswers, IsSetOpened};
-ghost use Rattle.watcher.specs.Sets.{SoundFile, RoomSummed, SetOpenReady, lateAfter, EndsReady, SetJudged, SetReady, SetDone};
+ghost use Rattle.watcher.specs.SetCalls.{SoundFile, RoomSummed, SetOpenReady, lateAfter, EndsReady, SetJudged, SetReady, SetDone};
 
 // What a set's tick answers.
 pub enum SetTicking {

@@ -1,5 +1,5 @@
 -- `watcher::tick` meets its contract: the refusals in their order, then the step of the walk over the entries. Assumes nothing.
-use mathlib.Core.Path.{_≡_, refl, sym, _∙_}
+use mathlib.Core.Path.{_≡_, refl}
 use mathlib.Core.Bool.{true}
 use native.Mathlib.Omega.{arith}
 use borrow.Author.Needs.{needs}

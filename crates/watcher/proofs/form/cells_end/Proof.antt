@@ -1,19 +1,15 @@
 -- `watcher::form::cells_end` meets its contract: the invariant is `Judging` with the stack of p in an array, the measure the entries left.
 -- Assumes nothing.
 use mathlib.Core.Path.{_≡_, refl, sym, ap, subst, _∙_}
-use mathlib.Core.Bool.{true, false}
-use mathlib.Core.List.{List, []}
+use mathlib.Core.List.{[]}
 use Prim.Native.Nat.{ℕ, _+_, _-_, _≤_, _<_}
-use lib.ListN.{getD, set, length, length-set, length-drop, take, drop}
+use lib.ListN.{getD, length, length-set, length-drop}
 use native.Mathlib.Omega.{arith}
 use borrow.Author.Needs.{needs}
-use Rattle.body.specs.declared.Entry.the-variants.{Letter, Pair, Within, Wrong}
-use Rattle.body.specs.Entry.{entriesBy}
-use Rattle.body.specs.Check.{scan}
+use Rattle.body.specs.declared.Entry.the-variants.{Letter, Pair}
 use Rattle.body.specs.Stack.{stack, stackBy}
-use Rattle.cell.specs.Cell.{cellWords}
 use Rattle.cell.specs.Form.{cellFits}
-use Rattle.watcher.specs.Walk.{entryIn, endBy, judged}
+use Rattle.watcher.specs.Walk.{entryIn, endBy}
 use Rattle.watcher.specs.Form.{sounds, cellsEnd}
 use Rattle.watcher.proofs.Piles.{piled-wrong}
 use Rattle.watcher.proofs.Arrays.{letter-fits, letter-stack, pair-two, pair-stack, pair-small, pair-set, part-is, part-long}

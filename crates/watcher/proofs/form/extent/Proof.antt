@@ -1,5 +1,5 @@
 -- `watcher::form::extent` meets its contract: each test that fails, and the last, by the definition of the extent. Assumes nothing.
-use mathlib.Core.Path.{_≡_, sym, _∙_}
+use mathlib.Core.Path.{sym, _∙_}
 use native.Mathlib.Omega.{arith}
 use borrow.Author.Needs.{needs}
 use Rattle.watcher.proofs.Formed.{formed-short, formed-least, formed-most, formed-long, formed-unsound, formed-early, extent-cells, extent-none}

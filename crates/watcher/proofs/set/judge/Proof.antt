@@ -1,8 +1,8 @@
 -- `watcher::set::judge` meets its contract: the invariant is `SetJudging`, the measure the states left. Assumes nothing.
-use mathlib.Core.Path.{_≡_, refl, sym, ap, _∙_}
-use Prim.Native.Nat.{_+_, _-_, _≤_, _<_}
+use mathlib.Core.Path.{_≡_, ap, _∙_}
+use Prim.Native.Nat.{_+_, _-_, _<_}
 use native.Mathlib.Omega.{arith}
-use lib.ListN.{length, getD, drop}
+use lib.ListN.{drop}
 use borrow.Author.Needs.{needs}
 use Rattle.watcher.specs.Walk.{extent}
 use Rattle.watcher.proofs.SetJudges.{SetJudging, set-judging-start, set-judging-late, set-judging-end, set-judging-broken}
@@ -74,7 +74,8 @@ add-at : tie.Need-add-at Inv-loop μ-loop
 add-at c =
     let e = c .before .before in
     let j = e .before .before .before in
-    omega (arith, words (e .before), set-judging-within (j .before .loop .inv) (j .loop-test .taken) (j .before .before .before .before .pre .few) (some e))
+    omega (arith, words (e .before),
+    set-judging-within (j .before .loop .inv) (j .loop-test .taken) (j .before .before .before .before .pre .few) (some e))
 
 add-i : tie.Need-add-i Inv-loop μ-loop
 add-i c = search needs

@@ -3,7 +3,7 @@ use mathlib.Core.Path.{sym, _∙_}
 use native.Mathlib.Decide.{decLt}
 use native.Mathlib.Omega.{arith}
 use Rattle.rules.proofs.Decisions.{pick-yes, pick-no}
-use Rattle.watcher.specs.Sets.{lateAfter}
+use Rattle.watcher.specs.SetCalls.{lateAfter}
 use Rattle.watcher.proofs.set.late_after.Statement.{statement}
 use Rattle.watcher.proofs.set.late_after.Tie as tie
 

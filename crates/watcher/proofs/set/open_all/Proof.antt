@@ -1,11 +1,11 @@
 -- `watcher::set::open_all` meets its contract: the invariant is `SetOpening`, the measure the patterns left. Assumes nothing.
-use mathlib.Core.Path.{_≡_, refl, sym, _∙_}
 use Prim.Native.Nat.{_+_, _-_, _≤_}
 use native.Mathlib.Omega.{arith}
-use lib.ListN.{length, getD}
+use lib.ListN.{length}
 use borrow.Author.Needs.{needs}
 use Rattle.watcher.proofs.SetFiles.{Next, holds-some, ahead-read}
-use Rattle.watcher.proofs.SetOpens.{part-sound, SetOpening, opening-start, opening-end, opening-next, opening-within, opening-ready, opening-more}
+use Rattle.watcher.proofs.SetOpens.{part-sound, SetOpening, opening-start, opening-end, opening-next}
+use Rattle.watcher.proofs.SetOpens.{opening-within, opening-ready, opening-more}
 use Rattle.watcher.proofs.set.open_all.Statement.{statement}
 use Rattle.watcher.proofs.set.open_all.Tie as tie
 
@@ -19,9 +19,12 @@ abbrev μ-loop : tie.MeasureT-loop
 next : (c : tie.After-wide2 Inv-loop μ-loop)
     → let l = c .before .before .before in
     let s = l .before .before .before .before .before in
-    (x : SetOpening (s .args .file .now) (s .args .states .now) (l .before .wide .result) (l .loop .states) (l .loop .at) (l .loop .from) (l .loop .i))
+    (x : SetOpening (s .args .file .now) (s .args .states .now) (l .before .wide .result)
+    (l .loop .states) (l .loop .at) (l .loop .from) (l .loop .i))
     × Next (s .args .file .now) (l .before .wide .result) (l .loop .i) (l .loop .at) (x .rest) (c .wide2 .result)
-next c = let j = c .before .before in (j .before .loop .inv, opening-next (j .before .loop .inv) (j .loop-test .taken) (c .wide2 .result) (c .wide2 .ensures .0))
+next c =
+    let j = c .before .before in
+    (j .before .loop .inv, opening-next (j .before .loop .inv) (j .loop-test .taken) (c .wide2 .result) (c .wide2 .ensures .0))
 
 within : (c : tie.After-cells-needed Inv-loop μ-loop)
     → let w = c .before .before in
@@ -30,7 +33,8 @@ within : (c : tie.After-cells-needed Inv-loop μ-loop)
 within c =
     let w = c .before .before in
     let j = w .before .before in
-    opening-within (j .before .loop .inv) (j .loop-test .taken) (w .wide2 .result) (w .wide2 .ensures .0) (c .cells-needed .result) (c .cells-needed .ensures .0)
+    opening-within (j .before .loop .inv) (j .loop-test .taken) (w .wide2 .result) (w .wide2 .ensures .0)
+    (c .cells-needed .result) (c .cells-needed .ensures .0)
 
 shared-slice-read-wide : tie.Need-shared-slice-read-wide Inv-loop μ-loop
 shared-slice-read-wide c = let h = c .before .before .before .pre .summed in holds-some _ (h .patterns) (h .file)
@@ -114,7 +118,8 @@ write-opened-requires c κs =
     let e = c .before .before in
     let w = e .before .before in
     let j = w .before .before in
-    opening-ready (j .before .loop .inv) (j .loop-test .taken) (w .wide2 .result) (w .wide2 .ensures .0) (e .cells-needed .result) (e .cells-needed .ensures .0)
+    opening-ready (j .before .loop .inv) (j .loop-test .taken) (w .wide2 .result) (w .wide2 .ensures .0)
+    (e .cells-needed .result) (e .cells-needed .ensures .0)
 
 add-i : tie.Need-add-i Inv-loop μ-loop
 add-i c = search needs
@@ -128,8 +133,8 @@ loop-again c =
     let e = o .before .before .before in
     let w = e .before .before in
     let j = w .before .before in
-    opening-more (j .before .loop .inv) (j .loop-test .taken) (w .wide2 .result) (w .wide2 .ensures .0) (e .cells-needed .result) (e .cells-needed .ensures .0)
-    (o .write-opened .last .1 .0) (o .write-opened .ensures) (o .write-opened .kept .1 .0)
+    opening-more (j .before .loop .inv) (j .loop-test .taken) (w .wide2 .result) (w .wide2 .ensures .0)
+    (e .cells-needed .result) (e .cells-needed .ensures .0) (o .write-opened .last .1 .0) (o .write-opened .ensures) (o .write-opened .kept .1 .0)
 
 same-length : tie.Need-same-length Inv-loop μ-loop
 same-length c = c .before .loop .inv .long

@@ -1,9 +1,7 @@
 -- `watcher::set::room_summed` meets its contract: the invariant is `Summing`, the measure the patterns left. Assumes nothing.
-use mathlib.Core.Path.{_≡_, refl, sym, _∙_}
 use mathlib.Core.List.{List}
 use Prim.Native.Nat.{_-_}
 use native.Mathlib.Omega.{arith}
-use lib.ListN.{length, getD}
 use borrow.Author.Needs.{needs}
 use Rattle.rules.specs.Pattern.{Pattern}
 use Rattle.watcher.specs.SetFile.{Holds}
@@ -27,7 +25,9 @@ next : (c : tie.After-wide2 Inv-loop μ-loop)
     → let l = c .before .before .before in
     (x : Summing (l .before .before .before .before .args .file .now) (l .before .wide .result) (l .loop .words) (l .loop .at) (l .loop .i))
     × Next (l .before .before .before .before .args .file .now) (l .before .wide .result) (l .loop .i) (l .loop .at) (x .rest) (c .wide2 .result)
-next c = let j = c .before .before in (j .before .loop .inv, summing-next (j .before .loop .inv) (j .loop-test .taken) (c .wide2 .result) (c .wide2 .ensures .0))
+next c =
+    let j = c .before .before in
+    (j .before .loop .inv, summing-next (j .before .loop .inv) (j .loop-test .taken) (c .wide2 .result) (c .wide2 .ensures .0))
 
 shared-slice-read-wide : tie.Need-shared-slice-read-wide Inv-loop μ-loop
 shared-slice-read-wide c = let h = holds (c .before) in holds-some _ (h .0) (h .1)
@@ -96,7 +96,8 @@ loop-again : tie.Need-loop-again Inv-loop μ-loop
 loop-again c =
     let w = c .before .before in
     let j = w .before .before in
-    summing-more (j .before .loop .inv) (j .loop-test .taken) (w .wide2 .result) (w .wide2 .ensures .0) (c .cells-needed .result) (c .cells-needed .ensures .0) (c .cells-needed .ensures .1)
+    summing-more (j .before .loop .inv) (j .loop-test .taken) (w .wide2 .result) (w .wide2 .ensures .0)
+    (c .cells-needed .result) (c .cells-needed .ensures .0) (c .cells-needed .ensures .1)
 
 returns : tie.Need-returns Inv-loop μ-loop
 returns c = summing-end (c .before .loop .inv) (c .loop-test .left)

@@ -1,7 +1,5 @@
 -- `watcher::set::step_all` meets its contract: the invariant is `SetStepping`, the measure the states left. Assumes nothing.
 use Prim.Native.Nat.{_-_}
-use native.Mathlib.Omega.{arith}
-use lib.ListN.{length}
 use borrow.Author.Needs.{needs}
 use Rattle.watcher.proofs.SetSteps.{SetStepping, set-stepping-start, set-stepping-end, set-stepping-ends, set-stepping-within}
 use Rattle.watcher.proofs.SetSteps.{set-stepping-ready, set-stepping-more}

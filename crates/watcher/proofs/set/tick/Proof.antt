@@ -1,8 +1,8 @@
 -- `watcher::set::tick` meets its contract: the refusals in their order, then the steps of all states. Assumes nothing.
-use mathlib.Core.Path.{_≡_, refl, sym, subst, _∙_}
+use mathlib.Core.Path.{refl, subst}
 use native.Mathlib.Omega.{arith}
 use Rattle.watcher.specs.Set.{many, short, over, fault}
-use Rattle.watcher.specs.Sets.{SetJudged, SetReady}
+use Rattle.watcher.specs.SetCalls.{SetJudged, SetReady}
 use Rattle.watcher.proofs.SetSteps.{set-taken}
 use borrow.Author.Needs.{needs}
 use Rattle.watcher.proofs.set.tick.Statement.{statement}
@@ -58,7 +58,8 @@ same-length c = search needs
 returns-5 : tie.Need-returns-5
 returns-5 c =
     let j = c .before .before .before .before in
-    (fault (omega arith, omega arith) (omega arith) (omega arith) (subst (SetJudged _ _ _ _) (c .before .r .given .1) (j .judge .ensures)), refl, refl)
+    let q = subst (SetJudged _ _ _ _) (c .before .r .given .1) (j .judge .ensures) in
+    (fault (omega arith, omega arith) (omega arith) (omega arith) q, refl, refl)
 
 same-length-2 : tie.Need-same-length-2
 same-length-2 c = search needs

@@ -1,6 +1,5 @@
 -- `watcher::walk::steps` meets its contract: the invariant is `Feeds`, the measure the ticks left. Assumes nothing.
 use Prim.Native.Nat.{_-_}
-use native.Mathlib.Omega.{arith}
 use lib.ListN.{length}
 use borrow.Author.Needs.{needs}
 use Rattle.watcher.proofs.Feeds.{Feeds, feeds-start, feeds-end, feeds-late, feeds-range, feeds-more}
@@ -52,7 +51,8 @@ loop-again c =
     let p = c .before .before in
     let j = p .before .before .before .before in
     let r = j .before .before .before .before .before .before .pre in
-    feeds-more r (j .before .loop .inv) (j .loop-test .taken) (p .step .last .0) (p .step .result) (p .step .kept .0) (p .step .ensures .answer) (p .step .ensures .words)
+    feeds-more r (j .before .loop .inv) (j .loop-test .taken) (p .step .last .0) (p .step .result) (p .step .kept .0)
+    (p .step .ensures .answer) (p .step .ensures .words)
 
 same-length : tie.Need-same-length Inv-loop μ-loop
 same-length c = search needs
