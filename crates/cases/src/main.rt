@@ -1,6 +1,7 @@
 // The cases of document 01 that are run. Each prints its name, then a refusal's number, place and entry, 0 0 0 where nothing is refused.
 mod bodies;
 mod files;
+mod sets;
 mod show;
 mod texts;
 mod watches;
@@ -9,5 +10,6 @@ fn main() {
     bodies::run();
     texts::run();
     watches::run();
+    sets::run();
     files::run();
 }
