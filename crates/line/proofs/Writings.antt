@@ -1,0 +1,34 @@
+-- The ways that `write_line` goes: one lemma for each answer. Assumes nothing.
+use mathlib.Core.Path.{_≡_, refl, sym, ap, _∙_}
+use Prim.Native.Nat.{ℕ, _-_, _<_, _≤_}
+use native.Mathlib.Omega.{arith}
+use mathlib.Core.List.{List, _++_}
+use lib.ListN.{length, take, drop, replicate}
+use lib.Seq.{take-at, take-all}
+use Rattle.line.specs.Lines.{mostWritten}
+use Rattle.line.specs.Answer.{IsWritten, IsRoom}
+use Rattle.line.specs.Told.{Backward}
+
+-- the bytes of a line stand from `from` to the end of what was made
+module _ {made : List ℕ} {from : ℕ} {bytes : List ℕ} (b : Backward (replicate mostWritten 0) made mostWritten from bytes) where
+  pub made-length : length made ≡ mostWritten
+  made-length = b .written refl .0
+
+  count : mostWritten - from ≡ length bytes
+  count = omega (arith, b .room)
+
+  whole : take (mostWritten - from) (drop from made) ≡ bytes
+  whole = ap (take (mostWritten - from)) (b .written refl .1) ∙ take-at bytes _ (mostWritten - from) (sym count)
+
+  pub no-room : (d : List ℕ) → length d < mostWritten - from → IsRoom bytes d (mostWritten - from)
+  no-room d h = record { needs = count; lacks = h }
+
+  pub all-written : (d d′ : List ℕ) → mostWritten - from ≤ length d
+      → d′ ≡ take (mostWritten - from) (take (mostWritten - from) (drop from made)) ++ drop (mostWritten - from) d
+      → IsWritten bytes d d′ (mostWritten - from)
+  all-written d d′ h q = record {
+    counts = count;
+    fits = h;
+    written = q ∙ ap (λ (v : List ℕ). v ++ drop (mostWritten - from) d)
+        (ap (take (mostWritten - from)) whole ∙ take-all (mostWritten - from) bytes (omega (arith, count)));
+  }

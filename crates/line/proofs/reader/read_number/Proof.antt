@@ -1,0 +1,95 @@
+-- `line::reader::read_number` meets its contract. The invariant: the digits so far make the number, which is not 0. Assumes nothing.
+use borrow.Author.Needs.{needs}
+use native.Mathlib.Omega.{arith}
+use Prim.Native.Nat.{_-_}
+use lib.ListN.{length}
+use Rattle.line.proofs.Readings.{Going, front-empty, front-bad, value-zero, going-first, value-end, value-other, going-more}
+use Rattle.line.proofs.reader.read_number.Statement.{statement}
+use Rattle.line.proofs.reader.read_number.Tie as tie
+
+abbrev Inv-loop : tie.InvT-loop
+Inv-loop line first value₀ end₀ value end = Going line end value
+
+abbrev μ-loop : tie.MeasureT-loop
+μ-loop line first value₀ end₀ value end = length line - end
+
+returns : tie.Need-returns Inv-loop μ-loop
+returns c = front-empty _ (omega arith)
+
+shared-slice-read-digit : tie.Need-shared-slice-read-digit Inv-loop μ-loop
+shared-slice-read-digit c = search needs
+
+digit-requires : tie.Need-digit-requires Inv-loop μ-loop
+digit-requires c κs = search needs
+
+returns-2 : tie.Need-returns-2 Inv-loop μ-loop
+returns-2 c = front-bad _ (omega arith) _ (c .before .digit .ensures) (omega arith)
+
+returns-3 : tie.Need-returns-3 Inv-loop μ-loop
+returns-3 c = value-zero _ (omega arith) _ (c .before .before .digit .ensures) (omega arith)
+
+cast-value : tie.Need-cast-value Inv-loop μ-loop
+cast-value c = search needs
+
+loop-holds : tie.Need-loop-holds Inv-loop μ-loop
+loop-holds c = going-first _ (omega arith) _ (c .before .before .digit .ensures) (omega arith) (omega arith)
+
+shared-slice-read-digit-2 : tie.Need-shared-slice-read-digit-2 Inv-loop μ-loop
+shared-slice-read-digit-2 c = search needs
+
+digit-requires-2 : tie.Need-digit-requires-2 Inv-loop μ-loop
+digit-requires-2 c κs = search needs
+
+returns-4 : tie.Need-returns-4 Inv-loop μ-loop
+returns-4 c = value-other _ (c .before .before .before .before .loop .inv) (omega arith) _ (c .before .digit2 .ensures) (omega arith)
+
+mul-capped : tie.Need-mul-capped Inv-loop μ-loop
+mul-capped c = search needs
+
+cast-capped : tie.Need-cast-capped Inv-loop μ-loop
+cast-capped c = search needs
+
+add-capped : tie.Need-add-capped Inv-loop μ-loop
+add-capped c = search needs
+
+capped-requires : tie.Need-capped-requires Inv-loop μ-loop
+capped-requires c κs = search needs
+
+add-end : tie.Need-add-end Inv-loop μ-loop
+add-end c = search needs
+
+loop-less : tie.Need-loop-less Inv-loop μ-loop
+loop-less c = search needs
+
+loop-again : tie.Need-loop-again Inv-loop μ-loop
+loop-again c =
+    let d = c .before .before in
+    going-more _ (d .before .before .before .loop .inv) (omega arith) _ (d .digit2 .ensures) _ (omega arith) (c .capped .ensures)
+
+returns-5 : tie.Need-returns-5 Inv-loop μ-loop
+returns-5 c = value-end _ (c .before .loop .inv) (omega arith)
+
+pub read-number-spec : {M : Type 1} → statement M
+read-number-spec =
+    tie.close
+    (tie.spec
+    Inv-loop
+    μ-loop
+    returns
+    shared-slice-read-digit
+    digit-requires
+    returns-2
+    returns-3
+    cast-value
+    loop-holds
+    shared-slice-read-digit-2
+    digit-requires-2
+    returns-4
+    mul-capped
+    cast-capped
+    add-capped
+    capped-requires
+    add-end
+    loop-less
+    loop-again
+    returns-5)

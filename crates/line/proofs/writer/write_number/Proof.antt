@@ -1,0 +1,59 @@
+-- `line::writer::write_number` meets its contract. The invariant: the last digits are written, and the number left has the others. Assumes nothing.
+use borrow.Author.Needs.{needs}
+use native.Mathlib.Omega.{arith}
+use Rattle.line.proofs.Backwards.{NumberLeft, number-start, number-more, number-room, number-done}
+use Rattle.line.proofs.writer.write_number.Statement.{statement}
+use Rattle.line.proofs.writer.write_number.Tie as tie
+
+abbrev Inv-loop : tie.InvT-loop
+Inv-loop text₀ at n left₀ from₀ text left from = NumberLeft n text₀ text at from left
+
+abbrev μ-loop : tie.MeasureT-loop
+μ-loop text₀ at n left₀ from₀ text left from = left
+
+loop-holds : tie.Need-loop-holds Inv-loop μ-loop
+loop-holds c = number-start _ _ _ (omega arith) (c .pre)
+
+cast-write-byte : tie.Need-cast-write-byte Inv-loop μ-loop
+cast-write-byte c = search needs
+
+add-write-byte : tie.Need-add-write-byte Inv-loop μ-loop
+add-write-byte c = search needs
+
+write-byte-requires : tie.Need-write-byte-requires Inv-loop μ-loop
+write-byte-requires c κs = number-room (c .before .before .loop .inv)
+
+loop-less : tie.Need-loop-less Inv-loop μ-loop
+loop-less c = search needs
+
+loop-again : tie.Need-loop-again Inv-loop μ-loop
+loop-again c = number-more (c .before .before .before .loop .inv) _ _ (omega arith) (c .write-byte .ensures)
+
+cast-write-byte-2 : tie.Need-cast-write-byte-2 Inv-loop μ-loop
+cast-write-byte-2 c = search needs
+
+add-write-byte-2 : tie.Need-add-write-byte-2 Inv-loop μ-loop
+add-write-byte-2 c = search needs
+
+write-byte-requires-2 : tie.Need-write-byte-requires-2 Inv-loop μ-loop
+write-byte-requires-2 c κs = number-room (c .before .before .loop .inv)
+
+returns : tie.Need-returns Inv-loop μ-loop
+returns c = number-done (c .before .before .before .loop .inv) _ _ (omega arith) (c .write-byte2 .ensures)
+
+pub write-number-spec : {M : Type 1} → statement M
+write-number-spec =
+    tie.close
+    (tie.spec
+    Inv-loop
+    μ-loop
+    loop-holds
+    cast-write-byte
+    add-write-byte
+    write-byte-requires
+    loop-less
+    loop-again
+    cast-write-byte-2
+    add-write-byte-2
+    write-byte-requires-2
+    returns)

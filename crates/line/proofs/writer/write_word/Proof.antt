@@ -1,0 +1,47 @@
+-- `line::writer::write_word` meets its contract. The invariant: the bytes from `left` on are written. Assumes nothing.
+use borrow.Author.Needs.{needs}
+use native.Mathlib.Omega.{arith}
+use Rattle.line.proofs.Backwards.{WordLeft, word-start, word-more, word-done}
+use Rattle.line.proofs.writer.write_word.Statement.{statement}
+use Rattle.line.proofs.writer.write_word.Tie as tie
+
+abbrev Inv-loop : tie.InvT-loop
+Inv-loop made₀ at word left₀ from₀ made left from = WordLeft word made₀ made at from left
+
+abbrev μ-loop : tie.MeasureT-loop
+μ-loop made₀ at word left₀ from₀ made left from = left
+
+loop-holds : tie.Need-loop-holds Inv-loop μ-loop
+loop-holds c = word-start _ _ _ (c .before .pre)
+
+sub-left : tie.Need-sub-left Inv-loop μ-loop
+sub-left c = search needs
+
+shared-slice-read-write-byte : tie.Need-shared-slice-read-write-byte Inv-loop μ-loop
+shared-slice-read-write-byte c = search needs
+
+write-byte-requires : tie.Need-write-byte-requires Inv-loop μ-loop
+write-byte-requires c κs = search needs
+
+loop-less : tie.Need-loop-less Inv-loop μ-loop
+loop-less c = search needs
+
+loop-again : tie.Need-loop-again Inv-loop μ-loop
+loop-again c = word-more (c .before .before .before .before .loop .inv) _ _ (omega arith) (c .write-byte .ensures)
+
+returns : tie.Need-returns Inv-loop μ-loop
+returns c = word-done (c .before .loop .inv) (omega arith)
+
+pub write-word-spec : {M : Type 1} → statement M
+write-word-spec =
+    tie.close
+    (tie.spec
+    Inv-loop
+    μ-loop
+    loop-holds
+    sub-left
+    shared-slice-read-write-byte
+    write-byte-requires
+    loop-less
+    loop-again
+    returns)

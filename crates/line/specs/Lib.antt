@@ -1,0 +1,5 @@
+pub mod Lines
+pub mod Answer
+pub mod Claim
+pub mod Scan
+pub mod Told

@@ -1,0 +1,110 @@
+// Reading: the number at the front of a line, and the letters after its space.
+ghost use mathlib.Core.Path.{_≡_};
+ghost use Prim.Native.Nat.{_≤_, min};
+ghost use lib.ListN.{length, drop};
+ghost use Rattle.rules.specs.Limits.{ticks};
+ghost use Rattle.text.specs.Machine.{letterOf, digitOf};
+ghost use Rattle.line.specs.Scan.{wordOf};
+ghost use Rattle.line.specs.Told.{NumberOf};
+
+// The number of event types.
+const LETTERS: u8 = 32;
+
+// A small letter less this is its event type: `a` is 26.
+const SMALL: u8 = 71;
+
+// What any larger number is taken for: one more than the largest tick.
+const OVER: u64 = 4294967296;
+
+// Where a number ends and its value, or that there is none.
+pub(crate) enum Decimal {
+    Value(usize, u64),
+    Bad,
+}
+
+// The number that the line begins with, of any number of digits.
+pub(crate) fn read_number(line: &[u8]) -> Decimal
+    ensures { λ r. ⌜ NumberOf (now (line .entry)) r ⌝ }
+{
+    if line.len() == 0 {
+        return Decimal::Bad;
+    }
+    let first = digit(line[0]);
+    if first > 9 {
+        return Decimal::Bad;
+    }
+    if first == 0 {
+        return Decimal::Value(1, 0);
+    }
+    let mut value = first as u64;
+    let mut end = 1;
+    while end < line.len() {
+        let d = digit(line[end]);
+        if d > 9 {
+            return Decimal::Value(end, value);
+        }
+        value = capped(value * 10 + d as u64);
+        end += 1;
+    }
+    Decimal::Value(end, value)
+}
+
+// The number, or OVER for any larger one.
+fn capped(n: u64) -> u64
+    ensures { λ r. ⌜ r ≡ min n ticks ⌝ }
+{
+    if n < OVER { n } else { OVER }
+}
+
+// 0..9 for a digit, 10 for any other byte.
+fn digit(byte: u8) -> u8
+    ensures { λ r. ⌜ r ≡ digitOf byte ⌝ }
+{
+    if byte < b'0' {
+        10
+    } else if byte <= b'9' {
+        byte - b'0'
+    } else {
+        10
+    }
+}
+
+// The word of the events whose letters stand from `at` to the line's end, 0 where they are not letters in type order.
+pub(crate) fn read_letters(line: &[u8], at: usize) -> u32
+    requires { ⌜ at ≤ length (now line) ⌝ }
+    ensures { λ r. ⌜ r ≡ wordOf (drop at (now (line .entry))) ⌝ }
+{
+    let mut events: u32 = 0;
+    let mut next: u8 = 0;
+    let mut i = at;
+    while i < line.len() {
+        let kind = letter(line[i]);
+        if kind < next {
+            return 0;
+        }
+        if kind >= LETTERS {
+            return 0;
+        }
+        events = events + (1 << kind);
+        next = kind + 1;
+        i += 1;
+    }
+    events
+}
+
+// 0..31 for a letter, 32 for any other byte.
+fn letter(byte: u8) -> u8
+    ensures { λ r. ⌜ r ≡ letterOf byte ⌝ }
+{
+    if byte < b'A' {
+        LETTERS
+    } else if byte <= b'Z' {
+        byte - b'A'
+    } else if byte < b'a' {
+        LETTERS
+    } else if byte <= b'f' {
+        byte - SMALL
+    } else {
+        LETTERS
+    }
+}
