@@ -1,0 +1,75 @@
+-- `watch::take_chunk` stays within the chunk, the part and the output; the measure is the bytes of the chunk left. Assumes nothing.
+use Prim.Native.Nat.{_-_, _≤_}
+use mathlib.Core.Path.{_≡_}
+use lib.ListN.{length}
+use borrow.Author.Needs.{needs}
+use native.Mathlib.Omega.{arith}
+use Rattle.watch.proofs.take_chunk.Statement.{statement}
+use Rattle.watch.proofs.take_chunk.Tie as tie
+
+abbrev Inv-loop : tie.InvT-loop
+Inv-loop chunk part₀ state₀ out₀ p₀ at₀ part state out p at =
+    (at ≤ length chunk) × (length part ≡ length part₀) × (length state ≡ length state₀) × (length out ≡ length out₀)
+    × (p .kept ≤ length part) × (p .gathered ≤ length out)
+
+abbrev μ-loop : tie.MeasureT-loop
+μ-loop chunk part₀ state₀ out₀ p₀ at₀ part state out p at = length chunk - at
+
+loop-holds : tie.Need-loop-holds Inv-loop μ-loop
+loop-holds c = search needs
+
+line-end-requires : tie.Need-line-end-requires Inv-loop μ-loop
+line-end-requires c κs = search needs
+
+sub-take-piece : tie.Need-sub-take-piece Inv-loop μ-loop
+sub-take-piece c = search needs
+
+part-take-piece-start : tie.Need-part-take-piece-start Inv-loop μ-loop
+part-take-piece-start c = search needs
+
+part-take-piece-end : tie.Need-part-take-piece-end Inv-loop μ-loop
+part-take-piece-end c = search needs
+
+take-piece-requires : tie.Need-take-piece-requires Inv-loop μ-loop
+take-piece-requires c κs = search needs
+
+after-requires : tie.Need-after-requires Inv-loop μ-loop
+after-requires c κs = search needs
+
+loop-less : tie.Need-loop-less Inv-loop μ-loop
+loop-less c = search needs
+
+loop-again : tie.Need-loop-again Inv-loop μ-loop
+loop-again c = search needs
+
+same-length : tie.Need-same-length Inv-loop μ-loop
+same-length c = search needs
+
+same-length-2 : tie.Need-same-length-2 Inv-loop μ-loop
+same-length-2 c = search needs
+
+same-length-3 : tie.Need-same-length-3 Inv-loop μ-loop
+same-length-3 c = search needs
+
+returns : tie.Need-returns Inv-loop μ-loop
+returns c = search needs
+
+pub take-chunk-spec : {M : Type 1} → statement M
+take-chunk-spec =
+    tie.close
+    (tie.spec
+    Inv-loop
+    μ-loop
+    loop-holds
+    line-end-requires
+    sub-take-piece
+    part-take-piece-start
+    part-take-piece-end
+    take-piece-requires
+    after-requires
+    loop-less
+    loop-again
+    same-length
+    same-length-2
+    same-length-3
+    returns)

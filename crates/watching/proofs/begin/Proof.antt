@@ -1,0 +1,81 @@
+-- `watching::begin` meets its contract: the text read is the part of the body that the state is opened with. Assumes nothing.
+use mathlib.Core.Path.{refl, subst}
+use native.Mathlib.Omega.{arith}
+use Rattle.text.specs.Answer.{ReadingOf}
+use Rattle.watcher.specs.Answer.{OpenAnswers}
+use Rattle.watching.specs.Answer.BeginRefused.{unread}
+use Rattle.watching.proofs.Takings.{part-first, opened-by, unopened-by}
+use borrow.Author.Needs.{needs}
+use Rattle.watching.proofs.begin.Statement.{statement}
+use Rattle.watching.proofs.begin.Tie as tie
+
+slice-aggregate-read-pattern : tie.Need-slice-aggregate-read-pattern
+slice-aggregate-read-pattern c = search needs
+
+read-pattern-requires : tie.Need-read-pattern-requires
+read-pattern-requires c κs = search needs
+
+enum-known-reading : tie.Need-enum-known-reading
+enum-known-reading c = search needs
+
+enum-known-reading-2 : tie.Need-enum-known-reading-2
+enum-known-reading-2 c = search needs
+
+sub-open : tie.Need-sub-open
+sub-open c = search needs
+
+part-open-start : tie.Need-part-open-start
+part-open-start c = search needs
+
+part-open-end : tie.Need-part-open-end
+part-open-end c =
+    omega (arith, (subst (ReadingOf _ _ _) (c .before .before .reading2 .given .1) (c .before .before .before .before .before .read-pattern .ensures)) .fits)
+
+open-requires : tie.Need-open-requires
+open-requires c κs = search needs
+
+enum-told : tie.Need-enum-told
+enum-told c = search needs
+
+enum-known-r : tie.Need-enum-known-r
+enum-known-r c = search needs
+
+returns : tie.Need-returns
+returns c =
+    (unread (subst (ReadingOf _ _ _) (c .before .reading .given .1) (c .before .before .before .before .read-pattern .ensures)), refl)
+
+same-length : tie.Need-same-length
+same-length c = search needs
+
+returns-2 : tie.Need-returns-2
+returns-2 c =
+    opened-by _ _ _ _ _ _ (part-first (c .before .before .before .before .before .before .before .before .before .reading2 .given .0 .0) (c .before .before .before .before .before .before .before .before .before .before .before .before .read-pattern .last .1 .0)) (subst (ReadingOf _ _ _) (c .before .before .before .before .before .before .before .before .before .reading2 .given .1) (c .before .before .before .before .before .before .before .before .before .before .before .before .read-pattern .ensures))
+    (subst (OpenAnswers _ _ _) (c .enum-told .given .1) (c .before .before .before .before .«open» .ensures))
+
+same-length-2 : tie.Need-same-length-2
+same-length-2 c = search needs
+
+returns-3 : tie.Need-returns-3
+returns-3 c =
+    unopened-by _ _ _ _ _ _ _ (part-first (c .before .before .before .before .before .before .before .before .before .before .reading2 .given .0 .0) (c .before .before .before .before .before .before .before .before .before .before .before .before .before .read-pattern .last .1 .0)) (subst (ReadingOf _ _ _) (c .before .before .before .before .before .before .before .before .before .before .reading2 .given .1) (c .before .before .before .before .before .before .before .before .before .before .before .before .before .read-pattern .ensures))
+    (subst (OpenAnswers _ _ _) (c .before .r .given .1) (c .before .before .before .before .before .«open» .ensures))
+
+pub begin-spec : {M : Type 1} → statement M
+begin-spec =
+    tie.close
+    (tie.spec
+    slice-aggregate-read-pattern
+    read-pattern-requires
+    enum-known-reading
+    enum-known-reading-2
+    sub-open
+    part-open-start
+    part-open-end
+    open-requires
+    enum-told
+    enum-known-r
+    returns
+    same-length
+    returns-2
+    same-length-2
+    returns-3)

@@ -1,0 +1,27 @@
+-- `watching::finish` meets its contract: the tally is written in phase 1 only. Assumes nothing.
+use native.Mathlib.Omega.{arith}
+use Rattle.watching.proofs.Takings.{is-finished, is-unfinished}
+use borrow.Author.Needs.{needs}
+use Rattle.watching.proofs.finish.Statement.{statement}
+use Rattle.watching.proofs.finish.Tie as tie
+
+write-tally-requires : tie.Need-write-tally-requires
+write-tally-requires c κs = search needs
+
+bytes-in-requires : tie.Need-bytes-in-requires
+bytes-in-requires c κs = search needs
+
+same-length : tie.Need-same-length
+same-length c = search needs
+
+returns : tie.Need-returns
+returns c =
+    let s = c .before .before .before .before .before .before .before .before in
+    is-finished (s .args .run) _ _ (s .pre) _ (c .before .before .before .write-tally .result) (c .before .before .before .before .before .if1 .taken) (omega arith) (omega arith) (c .before .before .before .write-tally .ensures) (c .bytes-in .ensures)
+
+returns-2 : tie.Need-returns-2
+returns-2 c = is-unfinished (c .before .before .before .args .run) _ (c .if1 .left)
+
+pub finish-spec : {M : Type 1} → statement M
+finish-spec =
+    tie.close (tie.spec write-tally-requires bytes-in-requires same-length returns returns-2)

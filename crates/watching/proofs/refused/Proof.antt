@@ -1,0 +1,36 @@
+-- `watching::refused` meets its contract: a refusal's line fits 60 bytes, so it is written. Assumes nothing.
+use Rattle.watching.proofs.Takings.{is-refused}
+use borrow.Author.Needs.{needs}
+use Rattle.watching.proofs.refused.Statement.{statement}
+use Rattle.watching.proofs.refused.Tie as tie
+
+next-line-requires : tie.Need-next-line-requires
+next-line-requires c κs = search needs
+
+number-requires : tie.Need-number-requires
+number-requires c κs = search needs
+
+write-refused-requires : tie.Need-write-refused-requires
+write-refused-requires c κs = search needs
+
+bytes-in-requires : tie.Need-bytes-in-requires
+bytes-in-requires c κs = search needs
+
+same-length : tie.Need-same-length
+same-length c = search needs
+
+returns : tie.Need-returns
+returns c =
+    let s = c .before .before .before .before .before .before .before .before in
+    is-refused _ _ _ (s .pre) _ _ _ _ (c .before .before .before .write-refused .result) (c .before .before .before .before .before .before .next-line .ensures) (c .before .before .before .before .before .number .ensures) (c .before .before .before .write-refused .ensures) (c .bytes-in .ensures)
+
+pub refused-spec : {M : Type 1} → statement M
+refused-spec =
+    tie.close
+    (tie.spec
+    next-line-requires
+    number-requires
+    write-refused-requires
+    bytes-in-requires
+    same-length
+    returns)

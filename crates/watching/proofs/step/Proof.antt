@@ -1,0 +1,84 @@
+-- `watching::step` meets its contract: the line is read, and then the state takes its tick. Assumes nothing.
+use mathlib.Core.Path.{refl, subst}
+use Rattle.line.specs.Answer.{LineReadOf}
+use Rattle.watcher.specs.Answer.{TickAnswers}
+use Rattle.watching.specs.Answer.StepRefused.{unread}
+use Rattle.watching.proofs.Takings.{unticked-by}
+use borrow.Author.Needs.{needs}
+use Rattle.watching.proofs.step.Statement.{statement}
+use Rattle.watching.proofs.step.Tie as tie
+
+read-tick-requires : tie.Need-read-tick-requires
+read-tick-requires c κs = search needs
+
+enum-known-r : tie.Need-enum-known-r
+enum-known-r c = search needs
+
+enum-known-t : tie.Need-enum-known-t
+enum-known-t c = search needs
+
+tick-requires : tie.Need-tick-requires
+tick-requires c κs = search needs
+
+enum-known-start : tie.Need-enum-known-start
+enum-known-start c = search needs
+
+enum-told : tie.Need-enum-told
+enum-told c = search needs
+
+enum-known-r-2 : tie.Need-enum-known-r-2
+enum-known-r-2 c = search needs
+
+returns : tie.Need-returns
+returns c =
+    (unread (subst (LineReadOf _) (c .before .r .given .1) (c .before .before .before .read-tick .ensures)), refl)
+
+same-length : tie.Need-same-length
+same-length c = search needs
+
+returns-2 : tie.Need-returns-2
+returns-2 c =
+    record {
+      events = c .before .before .before .before .before .before .before .before .t .given .0 .1 .0;
+      read = subst (LineReadOf _) (c .before .before .before .before .before .before .before .before .t .given .1) (c .before .before .before .before .before .before .before .before .before .before .read-tick .ensures);
+      ticked = subst (TickAnswers _ _ _ _) (c .before .start .given .1) (c .before .before .before .before .before .tick .ensures);
+    }
+
+same-length-2 : tie.Need-same-length-2
+same-length-2 c = search needs
+
+returns-3 : tie.Need-returns-3
+returns-3 c = (
+  c .before .before .before .before .before .before .before .t .given .0 .0,
+  record {
+    events = c .before .before .before .before .before .before .before .t .given .0 .1 .0;
+    read = subst (LineReadOf _) (c .before .before .before .before .before .before .before .t .given .1) (c .before .before .before .before .before .before .before .before .before .read-tick .ensures);
+    ticked = subst (TickAnswers _ _ _ _) (c .enum-told .given .1) (c .before .before .before .before .tick .ensures);
+  },
+)
+
+same-length-3 : tie.Need-same-length-3
+same-length-3 c = search needs
+
+returns-4 : tie.Need-returns-4
+returns-4 c =
+    unticked-by _ _ _ _ _ _ (subst (LineReadOf _) (c .before .before .before .before .before .before .before .before .t .given .1) (c .before .before .before .before .before .before .before .before .before .before .read-tick .ensures)) (subst (TickAnswers _ _ _ _) (c .before .r2 .given .1) (c .before .before .before .before .before .tick .ensures))
+
+pub step-spec : {M : Type 1} → statement M
+step-spec =
+    tie.close
+    (tie.spec
+    read-tick-requires
+    enum-known-r
+    enum-known-t
+    tick-requires
+    enum-known-start
+    enum-told
+    enum-known-r-2
+    returns
+    same-length
+    returns-2
+    same-length-2
+    returns-3
+    same-length-3
+    returns-4)

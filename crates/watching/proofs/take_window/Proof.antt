@@ -1,0 +1,59 @@
+-- `watching::take_window` meets its contract: the window is added and written, or its refusal is. Assumes nothing.
+use Rattle.watching.proofs.Takings.{is-added, is-full}
+use borrow.Author.Needs.{needs}
+use Rattle.watching.proofs.take_window.Statement.{statement}
+use Rattle.watching.proofs.take_window.Tie as tie
+
+added-requires : tie.Need-added-requires
+added-requires c κs = search needs
+
+enum-known-r : tie.Need-enum-known-r
+enum-known-r c = search needs
+
+refused-requires : tie.Need-refused-requires
+refused-requires c κs = search needs
+
+enum-known-more : tie.Need-enum-known-more
+enum-known-more c = search needs
+
+next-line-requires : tie.Need-next-line-requires
+next-line-requires c κs = search needs
+
+write-window-requires : tie.Need-write-window-requires
+write-window-requires c κs = search needs
+
+bytes-in-requires : tie.Need-bytes-in-requires
+bytes-in-requires c κs = search needs
+
+same-length : tie.Need-same-length
+same-length c = search needs
+
+returns : tie.Need-returns
+returns c =
+    let s = c .before .before .before .before .before .before .before .before .before in
+    is-full _ _ _ (s .pre) _ _ _ _ _ (c .before .before .before .before .before .before .before .added .ensures) (c .before .before .before .before .before .r .given .1) (c .before .before .refused .ensures)
+
+same-length-2 : tie.Need-same-length-2
+same-length-2 c = search needs
+
+returns-2 : tie.Need-returns-2
+returns-2 c =
+    let s = c .before .before .before .before .before .before .before .before .before .before .before in
+    is-added _ _ _ (s .pre) _ _ _ _ _ _ (c .before .before .before .write-window .result) (s .fits .start .fits) (s .fits .end .fits) (c .before .before .before .before .before .before .before .before .before .added .ensures) (c .before .before .before .before .before .before .before .more .given .1)
+    (c .before .before .before .before .before .next-line .ensures) (c .before .before .before .write-window .ensures) (c .bytes-in .ensures)
+
+pub take-window-spec : {M : Type 1} → statement M
+take-window-spec =
+    tie.close
+    (tie.spec
+    added-requires
+    enum-known-r
+    refused-requires
+    enum-known-more
+    next-line-requires
+    write-window-requires
+    bytes-in-requires
+    same-length
+    returns
+    same-length-2
+    returns-2)
