@@ -1,2 +1,3 @@
 pub mod Writings
 pub mod Takings
+pub mod Whole

@@ -1,2 +1,4 @@
 pub mod Runs
 pub mod Answer
+pub mod Whole
+pub mod Claim

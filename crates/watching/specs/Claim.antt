@@ -1,0 +1,60 @@
+-- What is claimed of a whole input: demand 3, on what is written. Assumes nothing: these are definitions.
+use Prim.Native.Nat.{ℕ, suc, zero}
+use mathlib.Core.Path.{_≡_}
+use mathlib.Core.List.{List, [], _∷_, _++_}
+use lib.ListN.{length}
+use Rattle.rules.specs.Pattern.{Pattern}
+use Rattle.rules.specs.Instances.{Has, Latest}
+use Rattle.rules.specs.History.{Tick, Rising, recordOf}
+use Rattle.text.specs.Grammar.{TextOf}
+use Rattle.tally.specs.Claim.{Window, span}
+use Rattle.line.specs.Lines.{windowLine, tallyLine}
+use Rattle.line.specs.Answer.{IsTick}
+use Rattle.watching.specs.declared.Run.{Run}
+use Rattle.watching.specs.Runs.{fresh}
+use Rattle.watching.specs.Whole.{linesOf, Takes, Prints}
+
+-- lines that are each the line of a tick: the ticks
+pub data AreTicks : List (List ℕ) → List Tick → Type 0 where
+  none : AreTicks [] []
+  tick : {l : List ℕ} {ls : List (List ℕ)} {k : List Tick} (t w : ℕ) → IsTick l t w → AreTicks ls k → AreTicks (l ∷ ls) ((t, w) ∷ k)
+
+-- the window that ends at t, by its start + 1; none for 0
+abbrev pub windowAt : ℕ → ℕ → List Window
+windowAt zero t = []
+windowAt (suc start) t = (start, t) ∷ []
+
+-- the windows that the rules ask for at ticks that follow those of h: one at each tick at which an instance ends, with the latest start
+pub data Reports (e : Pattern) : List Tick → List Tick → List Window → Type 0 where
+  none : {h : List Tick} → Reports e h [] []
+  tick : {h k : List Tick} {ws : List Window} (t w a : ℕ) → Latest (Has (recordOf (h ++ ((t, w) ∷ []))) e) t a
+      → Reports e (h ++ ((t, w) ∷ [])) k ws → Reports e h ((t, w) ∷ k) (windowAt a t ++ ws)
+
+-- each window as `start end`
+unfoldable pub windowLines : List Window → List ℕ
+windowLines [] = []
+windowLines (w ∷ ws) = windowLine (w .0) (w .1) ++ windowLines ws
+
+-- line 1 is the text of a pattern and the others are ticks that rise; the bytes are the windows that the rules ask for, and the run has their tally
+pub record Agreed (p : List ℕ) (ls : List (List ℕ)) (bytes : List ℕ) (run : Run) : Type 0 where
+  pub pattern : Pattern
+  pub text : TextOf p pattern
+  pub ticks : List Tick
+  pub lines : AreTicks ls ticks
+  pub rising : Rising 0 ticks
+  pub windows : List Window
+  pub reports : Reports pattern [] ticks windows
+  pub written : bytes ≡ windowLines windows
+  pub counted : run .windows ≡ length windows
+  pub summed : run .ticks ≡ span windows
+
+-- as long as no line is refused, what is written is what the rules ask for
+abbrev pub LinesAgree : Type 0
+LinesAgree =
+    (s s′ p bytes : List ℕ) (ls : List (List ℕ)) (run : Run) → Takes fresh s (p ∷ ls) run s′ bytes → run .phase ≡ 1 → Agreed p ls bytes run
+
+-- so the output for an input that no refusal ends is those windows and then their number and their sum
+abbrev pub OutputAgrees : Type 0
+OutputAgrees =
+    (s input output p : List ℕ) (ls : List (List ℕ)) (x : Prints s input output) → linesOf input ≡ p ∷ ls → x .run .phase ≡ 1
+    → (a : Agreed p ls (x .bytes) (x .run)) × (output ≡ windowLines (a .windows) ++ tallyLine (length (a .windows)) (span (a .windows)))
