@@ -74,8 +74,11 @@ add-at : tie.Need-add-at Inv-loop μ-loop
 add-at c =
     let e = c .before .before in
     let j = e .before .before .before in
-    omega (arith, words (e .before),
-    set-judging-within (j .before .loop .inv) (j .loop-test .taken) (j .before .before .before .before .pre .few) (some e))
+    omega (
+      arith,
+      words (e .before),
+      set-judging-within (j .before .loop .inv) (j .loop-test .taken) (j .before .before .before .before .pre .few) (some e),
+    )
 
 add-i : tie.Need-add-i Inv-loop μ-loop
 add-i c = search needs
