@@ -1,22 +1,30 @@
--- The claims on feeding, proved: ticks taken one after the other are those of the walk, and none of them has a fault. Assumes nothing.
-use Prim.Native.Nat.{ℕ, zero, suc, _+_}
-use mathlib.Core.Path.{_≡_, refl, sym, ap, _∙_}
+-- The claims on feeding, proved: ticks taken one after the other are watched, are those of the walk, and none of them has a fault.
+-- Assumes nothing.
+use Prim.Native.Nat.{ℕ, zero, suc, _+_, _≤_, _<_}
+use mathlib.Core.Path.{_≡_, refl, sym, ap, subst, _∙_}
 use mathlib.Core.List.{List, [], _∷_, _++_, append-assoc, append-nil}
 use native.Mathlib.Decide.{decLe, decLt}
 use native.Mathlib.Numerals.{add-one}
 use native.Mathlib.Omega.{arith}
 use lib.ListN.{length, getD, drop}
-use Rattle.rules.specs.Limits.{ticks}
-use Rattle.rules.specs.History.{Tick}
+use Rattle.rules.specs.Limits.{argumentBytes, ticks}
+use Rattle.rules.specs.Lists.{All}
+use Rattle.rules.specs.Pattern.{Pattern}
+use Rattle.rules.specs.Instances.{Has, Latest}
+use Rattle.rules.specs.History.{Tick, Rising, nextTick, recordOf}
 use Rattle.rules.proofs.Decisions.{pick-no}
+use Rattle.body.specs.Claim.{BodyOf}
 use Rattle.refusal.specs.declared.Refusal.{Refusal}
+use Rattle.watcher.specs.declared.Ticking.the-variants.{Window, Nothing}
 use Rattle.watcher.specs.declared.Feeding.the-variants.{Fed, Refused}
 use Rattle.watcher.specs.Answer.{IsTicked}
 use Rattle.watcher.specs.Walk.{answersFed, wordsFed}
 use Rattle.watcher.specs.Feed.{paired, AllTicked, none, more, firstFault, IsFed, FeedRefused, uneven, short, broken, faulty}
-use Rattle.watcher.specs.Claim.{FedWatched, OneFeeding, Watched, window, nothing}
+use Rattle.watcher.specs.Claim.{FedWatched, FedAgrees, OneFeeding, AllRight, Watched, window, nothing}
 use Rattle.watcher.proofs.States.{next-word}
 use Rattle.watcher.proofs.Calls.{ticked-as-walked}
+use Rattle.watcher.proofs.Agrees.{watched-reached}
+use Rattle.watcher.proofs.Theorem.{agrees, stays-in-form}
 use Rattle.watcher.proofs.Feeds.{ticked-form}
 
 -- one tick more
@@ -28,6 +36,50 @@ pub fed-watched : FedWatched
 fed-watched b h [] s s′ l x none = rw (append-nil h) x
 fed-watched b h (k ∷ ks) s s′ l x (more {m = m} {l = l′} t w a i y) =
     rw append-assoc at (fed-watched b (h ++ ((t, w) ∷ [])) ks m s′ l′ (one-more t w a x i) y)
+
+-- an accepted tick's answer is the rules'
+pub answer-right : (b : List ℕ) (e : Pattern) → BodyOf argumentBytes b e → {h : List Tick} {s s′ : List ℕ} (t w a : ℕ) → Watched b h s
+    → nextTick 0 h ≤ t → IsTicked s s′ t w a → Latest (Has (recordOf (h ++ ((t, w) ∷ []))) e) t a
+answer-right b e o {h} {s} {s′} t w zero x l i =
+    let r = agrees b e o h s s′ x t w Nothing l (i .range) i in
+    subst (Latest (Has (recordOf (h ++ ((t, w) ∷ []))) e) t) (r .1) (r .2)
+answer-right b e o {h} {s} {s′} t w (suc a) x l i =
+    let r = agrees b e o h s s′ x t w (Window a) l (i .range) i in
+    subst (Latest (Has (recordOf (h ++ ((t, w) ∷ []))) e) t) (r .1) (r .2)
+
+-- the next tick that a watched state allows
+watched-next : (b : List ℕ) (e : Pattern) → BodyOf argumentBytes b e → {h : List Tick} {s : List ℕ} → Watched b h s → getD s 1 0 ≡ nextTick 0 h
+watched-next b e o x = ap (λ (l : List ℕ). getD l 1 0) (watched-reached b e o x .same)
+
+all-right : (b : List ℕ) (e : Pattern) → BodyOf argumentBytes b e → (k : List Tick) {h : List Tick} {s l s′ : List ℕ} → Watched b h s
+    → AllTicked s k l s′ → AllRight e h k l
+all-right b e o [] x none = tt
+all-right b e o (k ∷ ks) x (more t w a i y) =
+    let n = watched-next b e o x in
+    (answer-right b e o t w a x (omega (arith, i .late, next-word (i .form))) i, all-right b e o ks (one-more t w a x i) y)
+
+-- ticks that rise and are in range have no fault
+rising-faultless : (ts ws : List ℕ) (i τ : ℕ) → length ts ≡ length ws → Rising τ (paired ts ws) → All (λ t. t < ticks) ts → firstFault i τ ts ≡ Fed
+unfolding paired firstFault
+rising-faultless [] ws i τ e r a = refl
+rising-faultless (t ∷ ts) [] i τ e r a = absurd (omega arith)
+rising-faultless (t ∷ ts) (w ∷ ws) i τ e r a =
+    pick-no (decLe ticks t) _ _ (λ z. omega (arith, a .0))
+    ∙ pick-no (decLt t τ) _ _ (λ z. omega (arith, r .0))
+    ∙ rising-faultless ts ws (i + 1) (t + 1) (omega arith) (rw (add-one t) (r .1)) (a .1)
+
+pub fed-agrees : FedAgrees
+fed-agrees b e o h s s′ x ts ws old new Fed v m r a i = (refl, i .answers, i .words, all-right b e o (paired ts ws) x (i .taken))
+fed-agrees b e o h s s′ x ts ws old new (Refused q) v m r a i = absurd (not-refused (i .0))
+  where
+    not-refused : FeedRefused s ts ws old q → ⊥
+    not-refused (uneven n p) = n v
+    not-refused (short c l p) = omega arith
+    not-refused (broken c l n p) = n (stays-in-form b h s x)
+    not-refused (faulty c l f p) =
+        let n : f .next ≡ nextTick 0 h = sym (next-word f) ∙ watched-next b e o x in
+        let k : firstFault 0 (f .next) ts ≡ Fed = rw n (rising-faultless ts ws 0 (nextTick 0 h) v r a) in
+        let z : _≡_ {A = ℕ} 0 1 = cc in omega arith
 
 -- the walk's answers and words
 fed-as-walked : (h : List Tick) {s l s′ : List ℕ} → AllTicked s h l s′ → (l ≡ answersFed h s) × (s′ ≡ wordsFed h s)

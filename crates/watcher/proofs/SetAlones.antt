@@ -1,21 +1,19 @@
 -- Each pattern of a set has its part of the slice, which is as if it were watched alone: so after opening, and after each tick. Assumes nothing.
-use Prim.Native.Nat.{ℕ, zero, suc, _≤_}
-use mathlib.Core.Path.{_≡_, refl, sym, ap, subst, _∙_}
+use Prim.Native.Nat.{ℕ, _≤_}
+use mathlib.Core.Path.{_≡_, refl, sym, ap, _∙_}
 use mathlib.Core.List.{List, [], _∷_, _++_, append-assoc, append-nil}
 use native.Mathlib.Omega.{arith}
 use lib.ListN.{length, getD, drop, replicate, length-replicate, drop-of-length-le}
 use Rattle.rules.specs.Limits.{argumentBytes}
 use Rattle.rules.specs.Lists.{All}
 use Rattle.rules.specs.Pattern.{Pattern}
-use Rattle.rules.specs.Instances.{Has, Latest}
 use Rattle.rules.specs.History.{Tick, nextTick, recordOf}
 use Rattle.detector.specs.Memory.{fresh}
 use Rattle.detector.proofs.Form.{fresh-form}
 use Rattle.body.specs.Postfix.{encode, Bodied}
 use Rattle.body.specs.Claim.{BodyOf}
-use Rattle.watcher.specs.declared.Ticking.the-variants.{Window, Nothing}
 use Rattle.watcher.specs.State.{stateOf, roomOf, InForm}
-use Rattle.watcher.specs.Answer.{IsOpened, IsTicked}
+use Rattle.watcher.specs.Answer.{IsOpened}
 use Rattle.watcher.specs.Claim.{Watched, opened}
 use Rattle.watcher.specs.Set.{Past, SetTicked}
 use Rattle.watcher.specs.Set as Sets
@@ -23,9 +21,8 @@ use Rattle.watcher.specs.SetFile.{statesOf}
 use Rattle.watcher.specs.SetClaim.{EachAlone, AllLatest}
 use Rattle.watcher.proofs.States.{next-word}
 use Rattle.watcher.proofs.Agrees.{watched-reached}
-use Rattle.watcher.proofs.Theorem.{agrees}
 use Rattle.watcher.proofs.Feeds.{ticked-form}
-use Rattle.watcher.proofs.Fed.{one-more}
+use Rattle.watcher.proofs.Fed.{one-more, answer-right}
 use Rattle.watcher.proofs.Past.{past-cons, front, one-front}
 
 -- as `EachAlone`, and each part is a state without words beyond
@@ -88,22 +85,13 @@ alones-ticked (e ∷ es) {t = t} {w = w} {s = s} (more p r q b x f k z) (Sets.mo
     more p₂ r₂ v b (one-more t w a (rw (o .0) at x) i) (ticked-form i) m (alones-ticked es (rw (o .1) at z) y)
 
 -- each answer is the rules'
-answer-right : (e : Pattern) → Bodied argumentBytes e → {h : List Tick} {p p′ : List ℕ} (t w a : ℕ) → Watched (encode argumentBytes e) h p
-    → nextTick 0 h ≤ t → IsTicked p p′ t w a → Latest (Has (recordOf (h ++ ((t, w) ∷ []))) e) t a
-answer-right e b {h} {p} {p′} t w zero x l i =
-    let r = agrees (encode argumentBytes e) e (body e b) h p p′ x t w Nothing l (i .range) i in
-    subst (Latest (Has (recordOf (h ++ ((t, w) ∷ []))) e) t) (r .1) (r .2)
-answer-right e b {h} {p} {p′} t w (suc a) x l i =
-    let r = agrees (encode argumentBytes e) e (body e b) h p p′ x t w (Window a) l (i .range) i in
-    subst (Latest (Has (recordOf (h ++ ((t, w) ∷ []))) e) t) (r .1) (r .2)
-
 pub alones-right : (es : List Pattern) {h : List Tick} {t w : ℕ} {s s′ l : List ℕ} → Alones h es s → nextTick 0 h ≤ t
     → SetTicked t w (length es) s s′ l
     → AllLatest (recordOf (h ++ ((t, w) ∷ []))) t es l
 alones-right [] x n Sets.none = tt
 alones-right (e ∷ es) {t = t} {w = w} {s = s} (more p r q b x f k z) n (Sets.more {a = a} {r = r₁} i m y u v) =
     let o = one-front f (i .form) k m s r r₁ q u in
-    (answer-right e b t w a (rw (o .0) at x) n i, alones-right es (rw (o .1) at z) n y)
+    (answer-right (encode argumentBytes e) e (body e b) t w a (rw (o .0) at x) n i, alones-right es (rw (o .1) at z) n y)
 
 -- and a tick that rises is allowed by all
 pub alones-past : (es : List Pattern) {h : List Tick} {t : ℕ} {s : List ℕ} → Alones h es s → nextTick 0 h ≤ t → (b : List ℕ) × Past t (length es) s b

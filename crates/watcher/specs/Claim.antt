@@ -4,10 +4,12 @@ use mathlib.Core.Logic.{_↔_}
 use mathlib.Core.Bool.{true}
 use mathlib.Core.List.{List, [], _∷_, _++_}
 use Prim.Native.Nat.{ℕ, suc, _≤_, _<_}
+use lib.ListN.{length, drop}
 use Rattle.rules.specs.Limits.{argumentBytes, ticks}
+use Rattle.rules.specs.Lists.{All}
 use Rattle.rules.specs.Pattern.{Pattern}
 use Rattle.rules.specs.Instances.{Has, Latest}
-use Rattle.rules.specs.History.{Tick, nextTick, recordOf}
+use Rattle.rules.specs.History.{Tick, Rising, nextTick, recordOf}
 use Rattle.body.specs.Claim.{BodyOf}
 use Rattle.watcher.specs.declared.Needed.{Needed}
 use Rattle.watcher.specs.declared.Opening.{Opening}
@@ -18,7 +20,8 @@ use Rattle.watcher.specs.declared.Feeding.{Feeding}
 use Rattle.watcher.specs.State.{InForm}
 use Rattle.watcher.specs.Answer.{RoomAnswers, OpenAnswers, TickAnswers}
 use Rattle.watcher.specs.Walk.{formed}
-use Rattle.watcher.specs.Feed.{AllTicked, FeedAnswers}
+use Rattle.watcher.specs.declared.Feeding.the-variants.{Fed}
+use Rattle.watcher.specs.Feed.{paired, AllTicked, FeedAnswers}
 
 -- a slice that was opened with a body and then only ticked: the ticks accepted so far, in order, and its words now
 pub data Watched (b : List ℕ) : List Tick → List ℕ → Type 0 where
@@ -64,6 +67,21 @@ OneRoom = (b : List ℕ) (r r′ : Needed) → RoomAnswers b r → RoomAnswers b
 -- feeding is watching: ticks taken one after the other are added to the history
 abbrev pub FedWatched : Type 0
 FedWatched = (b : List ℕ) (h k : List Tick) (s s′ l : List ℕ) → Watched b h s → AllTicked s k l s′ → Watched b (h ++ k) s′
+
+-- an answer for each tick, the rules' in the record up to it
+abbrev pub AllRight : Pattern → List Tick → List Tick → List ℕ → Type 0
+AllRight e h [] [] = Unit {0}
+AllRight e h [] (a ∷ l) = ⊥
+AllRight e h (k ∷ ks) [] = ⊥
+AllRight e h (k ∷ ks) (a ∷ l) = Latest (Has (recordOf (h ++ (k ∷ []))) e) (k .0) a × AllRight e (h ++ (k ∷ [])) ks l
+
+-- ticks that rise and are in range, as many as their events, with room for their answers, are not refused, and their answers are the rules'
+abbrev pub FedAgrees : Type 0
+FedAgrees =
+    (b : List ℕ) (e : Pattern) → BodyOf argumentBytes b e → (h : List Tick) (s s′ : List ℕ) → Watched b h s
+    → (ts ws old new : List ℕ) (r : Feeding) → length ts ≡ length ws → length ts ≤ length old
+    → Rising (nextTick 0 h) (paired ts ws) → All (λ t. t < ticks) ts → FeedAnswers s ts ws old s′ new r
+    → (r ≡ Fed) × (l : List ℕ) × (new ≡ l ++ drop (length ts) old) × AllRight e h (paired ts ws) l
 
 -- and no second answer, slice or answers meet the promise of feeding
 abbrev pub OneFeeding : Type 0

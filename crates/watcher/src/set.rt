@@ -158,11 +158,11 @@ fn step_all(states: &mut [u64], n: usize, t: u64, events: u32, ends: &[usize], a
     requires { ⌜ SetReady n (now states) t (now ends) (now answers) ⌝ }
     ensures { λ _. ⌜ SetDone n (now (states .entry)) t events (now (answers .entry)) (now (states .exit)) (now (answers .exit)) ⌝ }
 {
-    let mut i: usize = 0;
-    while i < n {
-        let at = ends[i];
-        let end = ends[i + 1];
-        answers[i] = crate::walk::step(&mut states[at..end], t, events);
-        i += 1;
+    let mut k: usize = 0;
+    while k < n {
+        let at = ends[k];
+        let end = ends[k + 1];
+        answers[k] = crate::walk::step(&mut states[at..end], t, events);
+        k += 1;
     }
 }

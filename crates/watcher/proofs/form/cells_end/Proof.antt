@@ -15,7 +15,8 @@ use Rattle.watcher.proofs.Piles.{piled-wrong}
 use Rattle.watcher.proofs.Arrays.{letter-fits, letter-stack, pair-two, pair-stack, pair-small, pair-set, part-is, part-long}
 use Rattle.watcher.proofs.Sounds.{none-by}
 use Rattle.watcher.proofs.Rooming.{words-le}
-use Rattle.watcher.proofs.Judging.{Judging, judging-start, judging-end, judging-letter, judging-within, judging-pair, judging-short, judging-broken}
+use Rattle.watcher.proofs.Judging.{Judging, judging-start, judging-end, judging-letter, judging-within}
+use Rattle.watcher.proofs.Judging.{judging-pair, judging-short, judging-broken}
 use Rattle.watcher.proofs.form.cells_end.Statement.{statement}
 use Rattle.watcher.proofs.form.cells_end.Tie as tie
 
@@ -131,7 +132,9 @@ cell-words-requires c κs = omega arith
 
 add-end : tie.Need-add-end Inv-loop μ-loop
 add-end c =
-    omega (arith, c .before .before .before .before .before .before .before .before .loop .inv .3 .inside, c .cell-words .ensures, words-le (c .before .before .before .before .entry .given .0 .0) (getD (c .before .before .before .before .before .before .before .before .loop .possible) (c .before .before .before .before .before .before .before .before .loop .d - 1) 0), c .before .small .ensures)
+    let a = c .before .before .before .before in
+    let l = a .before .before .before .before .loop in
+    omega (arith, l .inv .3 .inside, c .cell-words .ensures, words-le (a .entry .given .0 .0) (getD (l .possible) (l .d - 1) 0), c .before .small .ensures)
 
 returns : tie.Need-returns Inv-loop μ-loop
 unfolding cellsEnd
@@ -196,11 +199,13 @@ loop-again-2 c =
     let st = pair-stack (l .possible) (l .d) (l .inv .2) (x .piled) h (omega (arith, e .count, e .most)) _ q in
     let w = c .before .before .before .before .before in
     let f = c .before .before in
-    let fits = ap (cellFits _ _) (sym (part-is (s .args .state .now) (l .at) (w .cell-words .result) _ (w .cell-words .ensures))) ∙ sym (f .cell-fits .ensures) ∙ c .before .if2 .taken in (
+    let same = part-is (s .args .state .now) (l .at) (w .cell-words .result) _ (w .cell-words .ensures) in
+    let fits = ap (cellFits _ _) (sym same) ∙ sym (f .cell-fits .ensures) ∙ c .before .if2 .taken in
+    let top = pair-set (l .possible) (l .d) (l .inv .2) (x .piled) h (omega (arith, e .count, e .most)) _ q (c .possible-of .result) in (
       omega arith,
       omega arith,
       length-set (l .possible) (l .d - 2) (c .possible-of .result) ∙ l .inv .2,
-      rw (pair-set (l .possible) (l .d) (l .inv .2) (x .piled) h (omega (arith, e .count, e .most)) _ q (c .possible-of .result), c .possible-of .ensures, w .cell-words .ensures)
+      rw (top, c .possible-of .ensures, w .cell-words .ensures)
           (judging-pair (rw st at x) h _ q (omega (arith, w .cell-words .ensures)) fits),
     )
 
@@ -217,7 +222,8 @@ returns-2 c =
     let st = pair-stack (l .possible) (l .d) (l .inv .2) (x .piled) h (omega (arith, e .count, e .most)) _ q in
     let w = c .before .before .before .before in
     let f = c .before in
-    let fits = ap (cellFits _ _) (sym (part-is (s .args .state .now) (l .at) (w .cell-words .result) _ (w .cell-words .ensures))) ∙ sym (f .cell-fits .ensures) ∙ c .if2 .left in
+    let same = part-is (s .args .state .now) (l .at) (w .cell-words .result) _ (w .cell-words .ensures) in
+    let fits = ap (cellFits _ _) (sym same) ∙ sym (f .cell-fits .ensures) ∙ c .if2 .left in
     ap (endBy _) (sym (judging-broken (rw st at x) h _ q (omega (arith, w .cell-words .ensures)) fits))
 
 enum-told-2 : tie.Need-enum-told-2 Inv-loop μ-loop

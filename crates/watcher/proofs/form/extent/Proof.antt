@@ -2,7 +2,8 @@
 use mathlib.Core.Path.{sym, _∙_}
 use native.Mathlib.Omega.{arith}
 use borrow.Author.Needs.{needs}
-use Rattle.watcher.proofs.Formed.{formed-short, formed-least, formed-most, formed-long, formed-unsound, formed-early, extent-cells, extent-none}
+use Rattle.watcher.proofs.Formed.{formed-short, formed-least, formed-most, formed-long, formed-unsound, formed-early}
+use Rattle.watcher.proofs.Formed.{extent-cells, extent-none}
 use Rattle.watcher.proofs.form.extent.Statement.{statement}
 use Rattle.watcher.proofs.form.extent.Tie as tie
 
@@ -33,7 +34,8 @@ shared-slice-read-if6 c = search needs
 returns-5 : tie.Need-returns-5
 returns-5 c =
     let f = c .before .before .before in
-    extent-none _ (formed-early _ (omega arith) (omega arith) (omega arith) (sym (f .sound-entries .ensures) ∙ c .before .before .if5 .taken) (omega arith))
+    let q = sym (f .sound-entries .ensures) ∙ c .before .before .if5 .taken in
+    extent-none _ (formed-early _ (omega arith) (omega arith) (omega arith) q (omega arith))
 
 cells-end-requires : tie.Need-cells-end-requires
 cells-end-requires c κs =

@@ -7,10 +7,10 @@ use Rattle.watcher.proofs.set.step_all.Statement.{statement}
 use Rattle.watcher.proofs.set.step_all.Tie as tie
 
 abbrev Inv-loop : tie.InvT-loop
-Inv-loop states₀ n t events ends answers₀ i₀ states answers i = SetStepping n states₀ t events ends answers₀ states answers i
+Inv-loop states₀ n t events ends answers₀ k₀ states answers k = SetStepping n states₀ t events ends answers₀ states answers k
 
 abbrev μ-loop : tie.MeasureT-loop
-μ-loop states₀ n t events ends answers₀ i₀ states answers i = n - i
+μ-loop states₀ n t events ends answers₀ k₀ states answers k = n - k
 
 loop-holds : tie.Need-loop-holds Inv-loop μ-loop
 loop-holds c = set-stepping-start _ (c .before .before .before .pre)
@@ -63,8 +63,8 @@ mul-answers c = search needs
 slice-write-answers : tie.Need-slice-write-answers Inv-loop μ-loop
 slice-write-answers c = search needs
 
-add-i : tie.Need-add-i Inv-loop μ-loop
-add-i c = search needs
+add-k : tie.Need-add-k Inv-loop μ-loop
+add-k c = search needs
 
 loop-less : tie.Need-loop-less Inv-loop μ-loop
 loop-less c = search needs
@@ -104,7 +104,7 @@ step-all-spec =
     step-requires
     mul-answers
     slice-write-answers
-    add-i
+    add-k
     loop-less
     loop-again
     same-length
