@@ -1,3 +1,4 @@
 pub mod Writings
 pub mod Takings
 pub mod Whole
+pub mod Unique

@@ -149,7 +149,12 @@ lines-agree s s′ p bytes ls run (more (nothing z i) k) q = absurd (omega arith
 lines-agree s s′ p bytes ls run (more (refused z i) k) q = absurd (omega arith)
 lines-agree s s′ p bytes ls run (more (after z i) k) q = absurd (omega arith)
 
+-- the windows and their tally
+finished : (run : Run) (bytes : List ℕ) (ws : List Window) → run .phase ≡ 1 → bytes ≡ windowLines ws → run .windows ≡ length ws → run .ticks ≡ span ws
+    → bytes ++ finishLine run ≡ windowLines ws ++ tallyLine (length ws) (span ws)
+finished run bytes ws q w n t = simp (eq-eqb (run .phase) 1 q, w, n, t)
+
 pub output-agrees : OutputAgrees
 output-agrees s input output p ls x e q =
     let a = lines-agree s (x .state) p (x .bytes) ls (x .run) (rw e at (x .takes)) q in
-    (a, x .whole ∙ simp (eq-eqb (x .run .phase) 1 q, a .written, a .counted, a .summed))
+    (a, x .whole ∙ finished (x .run) (x .bytes) (a .windows) q (a .written) (a .counted) (a .summed))

@@ -1,4 +1,4 @@
--- What is claimed of a whole input: demand 3, on what is written. Assumes nothing: these are definitions.
+-- What is claimed of a whole input: demand 3, on what is written; and that the promises leave no choice. Assumes nothing: these are definitions.
 use Prim.Native.Nat.{ℕ, suc, zero}
 use mathlib.Core.Path.{_≡_}
 use mathlib.Core.List.{List, [], _∷_, _++_}
@@ -11,7 +11,9 @@ use Rattle.tally.specs.Claim.{Window, span}
 use Rattle.line.specs.Lines.{windowLine, tallyLine}
 use Rattle.line.specs.Answer.{IsTick}
 use Rattle.watching.specs.declared.Run.{Run}
+use Rattle.watching.specs.declared.Taken.{Taken}
 use Rattle.watching.specs.Runs.{fresh}
+use Rattle.watching.specs.Answer.{IsTaken, IsFinished}
 use Rattle.watching.specs.Whole.{linesOf, Takes, Prints}
 
 -- lines that are each the line of a tick: the ticks
@@ -58,3 +60,13 @@ abbrev pub OutputAgrees : Type 0
 OutputAgrees =
     (s input output p : List ℕ) (ls : List (List ℕ)) (x : Prints s input output) → linesOf input ≡ p ∷ ls → x .run .phase ≡ 1
     → (a : Agreed p ls (x .bytes) (x .run)) × (output ≡ windowLines (a .windows) ++ tallyLine (length (a .windows)) (span (a .windows)))
+
+-- no second answer, state and output meet the promise of taking a line
+abbrev pub OneTaking : Type 0
+OneTaking =
+    (run : Run) (l s s₁ s₂ d d₁ d₂ : List ℕ) (r₁ r₂ : Taken) → IsTaken run l s s₁ d d₁ r₁ → IsTaken run l s s₂ d d₂ r₂
+    → (r₁ ≡ r₂) × (s₁ ≡ s₂) × (d₁ ≡ d₂)
+
+-- nor that of finishing
+abbrev pub OneFinish : Type 0
+OneFinish = (run : Run) (d d₁ d₂ : List ℕ) (n₁ n₂ : ℕ) → IsFinished run d d₁ n₁ → IsFinished run d d₂ n₂ → (n₁ ≡ n₂) × (d₁ ≡ d₂)

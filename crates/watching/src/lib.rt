@@ -75,10 +75,10 @@ pub fn finish(run: Run, out: &mut [u8]) -> usize
     requires { ⌜ mostWritten ≤ length (now out) ⌝ }
     ensures { λ r. ⌜ IsFinished run (now (out .entry)) (now (out .exit)) r ⌝ }
 {
-    if run.phase == 1 {
-        return bytes_in(line::write_tally(run.windows, run.ticks, out));
+    if run.phase != 1 {
+        return 0;
     }
-    0
+    bytes_in(line::write_tally(run.windows, run.ticks, out))
 }
 
 fn take_first(run: Run, line: &[u8], state: &mut [u64], out: &mut [u8]) -> Taken

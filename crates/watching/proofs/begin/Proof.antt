@@ -29,7 +29,8 @@ part-open-start c = search needs
 
 part-open-end : tie.Need-part-open-end
 part-open-end c =
-    omega (arith, (subst (ReadingOf _ _ _) (c .before .before .reading2 .given .1) (c .before .before .before .before .before .read-pattern .ensures)) .fits)
+    let read = subst (ReadingOf _ _ _) (c .before .before .reading2 .given .1) (c .before .before .before .before .before .read-pattern .ensures) in
+    omega (arith, read .fits)
 
 open-requires : tie.Need-open-requires
 open-requires c κs = search needs
@@ -49,16 +50,24 @@ same-length c = search needs
 
 returns-2 : tie.Need-returns-2
 returns-2 c =
-    opened-by _ _ _ _ _ _ (part-first (c .before .before .before .before .before .before .before .before .before .reading2 .given .0 .0) (c .before .before .before .before .before .before .before .before .before .before .before .before .read-pattern .last .1 .0)) (subst (ReadingOf _ _ _) (c .before .before .before .before .before .before .before .before .before .reading2 .given .1) (c .before .before .before .before .before .before .before .before .before .before .before .before .read-pattern .ensures))
-    (subst (OpenAnswers _ _ _) (c .enum-told .given .1) (c .before .before .before .before .«open» .ensures))
+    let opens = c .before .before .before .before in
+    let known = opens .before .before .before .before .before in
+    let reads = known .before .before .before in
+    opened-by _ _ _ _ _ _ (part-first (known .reading2 .given .0 .0) (reads .read-pattern .last .1 .0))
+    (subst (ReadingOf _ _ _) (known .reading2 .given .1) (reads .read-pattern .ensures))
+    (subst (OpenAnswers _ _ _) (c .enum-told .given .1) (opens .«open» .ensures))
 
 same-length-2 : tie.Need-same-length-2
 same-length-2 c = search needs
 
 returns-3 : tie.Need-returns-3
 returns-3 c =
-    unopened-by _ _ _ _ _ _ _ (part-first (c .before .before .before .before .before .before .before .before .before .before .reading2 .given .0 .0) (c .before .before .before .before .before .before .before .before .before .before .before .before .before .read-pattern .last .1 .0)) (subst (ReadingOf _ _ _) (c .before .before .before .before .before .before .before .before .before .before .reading2 .given .1) (c .before .before .before .before .before .before .before .before .before .before .before .before .before .read-pattern .ensures))
-    (subst (OpenAnswers _ _ _) (c .before .r .given .1) (c .before .before .before .before .before .«open» .ensures))
+    let opens = c .before .before .before .before .before in
+    let known = opens .before .before .before .before .before in
+    let reads = known .before .before .before in
+    unopened-by _ _ _ _ _ _ _ (part-first (known .reading2 .given .0 .0) (reads .read-pattern .last .1 .0))
+    (subst (ReadingOf _ _ _) (known .reading2 .given .1) (reads .read-pattern .ensures))
+    (subst (OpenAnswers _ _ _) (c .before .r .given .1) (opens .«open» .ensures))
 
 pub begin-spec : {M : Type 1} → statement M
 begin-spec =

@@ -5,6 +5,9 @@ use borrow.Author.Needs.{needs}
 use Rattle.watching.proofs.finish.Statement.{statement}
 use Rattle.watching.proofs.finish.Tie as tie
 
+returns : tie.Need-returns
+returns c = is-unfinished (c .before .before .before .args .run) _ (c .if1 .taken)
+
 write-tally-requires : tie.Need-write-tally-requires
 write-tally-requires c κs = search needs
 
@@ -14,14 +17,13 @@ bytes-in-requires c κs = search needs
 same-length : tie.Need-same-length
 same-length c = search needs
 
-returns : tie.Need-returns
-returns c =
-    let s = c .before .before .before .before .before .before .before .before in
-    is-finished (s .args .run) _ _ (s .pre) _ (c .before .before .before .write-tally .result) (c .before .before .before .before .before .if1 .taken) (omega arith) (omega arith) (c .before .before .before .write-tally .ensures) (c .bytes-in .ensures)
-
 returns-2 : tie.Need-returns-2
-returns-2 c = is-unfinished (c .before .before .before .args .run) _ (c .if1 .left)
+returns-2 c =
+    let wrote = c .before .before .before in
+    let s = wrote .before .before .before .before .before in
+    is-finished (s .args .run) _ _ (s .pre) _ (wrote .write-tally .result) (wrote .before .before .if1 .left) (omega arith) (omega arith)
+    (wrote .write-tally .ensures) (c .bytes-in .ensures)
 
 pub finish-spec : {M : Type 1} → statement M
 finish-spec =
-    tie.close (tie.spec write-tally-requires bytes-in-requires same-length returns returns-2)
+    tie.close (tie.spec returns write-tally-requires bytes-in-requires same-length returns-2)

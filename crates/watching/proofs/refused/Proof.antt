@@ -21,8 +21,12 @@ same-length c = search needs
 
 returns : tie.Need-returns
 returns c =
-    let s = c .before .before .before .before .before .before .before .before in
-    is-refused _ _ _ (s .pre) _ _ _ _ (c .before .before .before .write-refused .result) (c .before .before .before .before .before .before .next-line .ensures) (c .before .before .before .before .before .number .ensures) (c .before .before .before .write-refused .ensures) (c .bytes-in .ensures)
+    let wrote = c .before .before .before in
+    let number = wrote .before .before in
+    let next = number .before in
+    let s = next .before .before in
+    is-refused _ _ _ (s .pre) _ _ _ _ (wrote .write-refused .result) (next .next-line .ensures) (number .number .ensures)
+    (wrote .write-refused .ensures) (c .bytes-in .ensures)
 
 pub refused-spec : {M : Type 1} → statement M
 refused-spec =

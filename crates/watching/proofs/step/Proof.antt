@@ -38,31 +38,38 @@ same-length c = search needs
 
 returns-2 : tie.Need-returns-2
 returns-2 c =
+    let ticks = c .before .before .before .before .before in
+    let known = ticks .before .before .before in
     record {
-      events = c .before .before .before .before .before .before .before .before .t .given .0 .1 .0;
-      read = subst (LineReadOf _) (c .before .before .before .before .before .before .before .before .t .given .1) (c .before .before .before .before .before .before .before .before .before .before .read-tick .ensures);
-      ticked = subst (TickAnswers _ _ _ _) (c .before .start .given .1) (c .before .before .before .before .before .tick .ensures);
+      events = known .t .given .0 .1 .0;
+      read = subst (LineReadOf _) (known .t .given .1) (known .before .before .read-tick .ensures);
+      ticked = subst (TickAnswers _ _ _ _) (c .before .start .given .1) (ticks .tick .ensures);
     }
 
 same-length-2 : tie.Need-same-length-2
 same-length-2 c = search needs
 
 returns-3 : tie.Need-returns-3
-returns-3 c = (
-  c .before .before .before .before .before .before .before .t .given .0 .0,
-  record {
-    events = c .before .before .before .before .before .before .before .t .given .0 .1 .0;
-    read = subst (LineReadOf _) (c .before .before .before .before .before .before .before .t .given .1) (c .before .before .before .before .before .before .before .before .before .read-tick .ensures);
-    ticked = subst (TickAnswers _ _ _ _) (c .enum-told .given .1) (c .before .before .before .before .tick .ensures);
-  },
-)
+returns-3 c =
+    let ticks = c .before .before .before .before in
+    let known = ticks .before .before .before in (
+      known .t .given .0 .0,
+      record {
+        events = known .t .given .0 .1 .0;
+        read = subst (LineReadOf _) (known .t .given .1) (known .before .before .read-tick .ensures);
+        ticked = subst (TickAnswers _ _ _ _) (c .enum-told .given .1) (ticks .tick .ensures);
+      },
+    )
 
 same-length-3 : tie.Need-same-length-3
 same-length-3 c = search needs
 
 returns-4 : tie.Need-returns-4
 returns-4 c =
-    unticked-by _ _ _ _ _ _ (subst (LineReadOf _) (c .before .before .before .before .before .before .before .before .t .given .1) (c .before .before .before .before .before .before .before .before .before .before .read-tick .ensures)) (subst (TickAnswers _ _ _ _) (c .before .r2 .given .1) (c .before .before .before .before .before .tick .ensures))
+    let ticks = c .before .before .before .before .before in
+    let known = ticks .before .before .before in
+    unticked-by _ _ _ _ _ _ (subst (LineReadOf _) (known .t .given .1) (known .before .before .read-tick .ensures))
+    (subst (TickAnswers _ _ _ _) (c .before .r2 .given .1) (ticks .tick .ensures))
 
 pub step-spec : {M : Type 1} → statement M
 step-spec =

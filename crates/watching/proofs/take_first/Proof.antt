@@ -24,8 +24,9 @@ same-length c = search needs
 
 returns : tie.Need-returns
 returns c =
-    let s = c .before .before .before .before .before .before .before .before .before .before in
-    is-begun _ _ _ _ _ (c .before .before .before .before .before .begin .result) _ (s .pre .0) (c .before .before .before .before .before .begin .ensures) (c .before .enum-told .given .1) (c .going .ensures)
+    let begins = c .before .before .before .before .before in
+    let s = begins .before .before .before .before .before in
+    is-begun _ _ _ _ _ (begins .begin .result) _ (s .pre .0) (begins .begin .ensures) (c .before .enum-told .given .1) (c .going .ensures)
 
 same-length-2 : tie.Need-same-length-2
 same-length-2 c = search needs
@@ -35,8 +36,10 @@ same-length-3 c = search needs
 
 returns-2 : tie.Need-returns-2
 returns-2 c =
-    let s = c .before .before .before .before .before .before .before .before .before .before .before .before .before .before in
-    is-unbegun _ _ _ _ _ _ _ (c .before .before .before .before .before .before .before .before .before .begin .result) _ (s .pre .0) (c .before .before .before .before .before .before .before .before .before .begin .ensures) (c .before .before .before .before .before .r .given .1) (c .before .before .refused .ensures)
+    let known = c .before .before .before .before .before in
+    let begins = known .before .before .before .before in
+    let s = begins .before .before .before .before .before in
+    is-unbegun _ _ _ _ _ _ _ (begins .begin .result) _ (s .pre .0) (begins .begin .ensures) (known .r .given .1) (c .before .before .refused .ensures)
 
 pub take-first-spec : {M : Type 1} → statement M
 take-first-spec =

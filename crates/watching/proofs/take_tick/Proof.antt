@@ -33,16 +33,19 @@ same-length-2 c = search needs
 
 returns : tie.Need-returns
 returns c =
-    let s = c .before .before .before .before .before .before .before .before .before .before .before .before .before .before in
-    is-window _ _ _ _ _ _ _ (c .before .before .before .before .before .before .before .before .before .step .result) _ _ (s .pre .0) (c .before .before .before .before .before .before .before .before .before .step .ensures) (c .before .before .before .before .before .start .given .1) (c .before .before .take-window .ensures)
+    let known = c .before .before .before .before .before in
+    let steps = known .before .before .before .before in
+    let s = steps .before .before .before .before .before in
+    is-window _ _ _ _ _ _ _ (steps .step .result) _ _ (s .pre .0) (steps .step .ensures) (known .start .given .1) (c .before .before .take-window .ensures)
 
 same-length-3 : tie.Need-same-length-3
 same-length-3 c = search needs
 
 returns-2 : tie.Need-returns-2
 returns-2 c =
-    let s = c .before .before .before .before .before .before .before .before .before .before in
-    is-nothing _ _ _ _ _ (c .before .before .before .before .before .step .result) _ (s .pre .0) (c .before .before .before .before .before .step .ensures) (c .before .enum-told .given .1) (c .going .ensures)
+    let steps = c .before .before .before .before .before in
+    let s = steps .before .before .before .before .before in
+    is-nothing _ _ _ _ _ (steps .step .result) _ (s .pre .0) (steps .step .ensures) (c .before .enum-told .given .1) (c .going .ensures)
 
 same-length-4 : tie.Need-same-length-4
 same-length-4 c = search needs
@@ -52,8 +55,10 @@ same-length-5 c = search needs
 
 returns-3 : tie.Need-returns-3
 returns-3 c =
-    let s = c .before .before .before .before .before .before .before .before .before .before .before .before .before .before in
-    is-unstepped _ _ _ _ _ _ _ (c .before .before .before .before .before .before .before .before .before .step .result) _ (s .pre .0) (c .before .before .before .before .before .before .before .before .before .step .ensures) (c .before .before .before .before .before .r .given .1) (c .before .before .refused .ensures)
+    let known = c .before .before .before .before .before in
+    let steps = known .before .before .before .before in
+    let s = steps .before .before .before .before .before in
+    is-unstepped _ _ _ _ _ _ _ (steps .step .result) _ (s .pre .0) (steps .step .ensures) (known .r .given .1) (c .before .before .refused .ensures)
 
 pub take-tick-spec : {M : Type 1} → statement M
 take-tick-spec =

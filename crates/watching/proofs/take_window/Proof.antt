@@ -30,17 +30,23 @@ same-length c = search needs
 
 returns : tie.Need-returns
 returns c =
-    let s = c .before .before .before .before .before .before .before .before .before in
-    is-full _ _ _ (s .pre) _ _ _ _ _ (c .before .before .before .before .before .before .before .added .ensures) (c .before .before .before .before .before .r .given .1) (c .before .before .refused .ensures)
+    let known = c .before .before .before .before .before in
+    let adds = known .before .before in
+    let s = adds .before .before in
+    is-full _ _ _ (s .pre) _ _ _ _ _ (adds .added .ensures) (known .r .given .1) (c .before .before .refused .ensures)
 
 same-length-2 : tie.Need-same-length-2
 same-length-2 c = search needs
 
 returns-2 : tie.Need-returns-2
 returns-2 c =
-    let s = c .before .before .before .before .before .before .before .before .before .before .before in
-    is-added _ _ _ (s .pre) _ _ _ _ _ _ (c .before .before .before .write-window .result) (s .fits .start .fits) (s .fits .end .fits) (c .before .before .before .before .before .before .before .before .before .added .ensures) (c .before .before .before .before .before .before .before .more .given .1)
-    (c .before .before .before .before .before .next-line .ensures) (c .before .before .before .write-window .ensures) (c .bytes-in .ensures)
+    let wrote = c .before .before .before in
+    let next = wrote .before .before in
+    let known = next .before .before in
+    let adds = known .before .before in
+    let s = adds .before .before in
+    is-added _ _ _ (s .pre) _ _ _ _ _ _ (wrote .write-window .result) (s .fits .start .fits) (s .fits .end .fits) (adds .added .ensures)
+    (known .more .given .1) (next .next-line .ensures) (wrote .write-window .ensures) (c .bytes-in .ensures)
 
 pub take-window-spec : {M : Type 1} → statement M
 take-window-spec =
