@@ -8,7 +8,23 @@ use lib.ListN.{length, take}
 use borrow.Author.Tests.{eq-eqb, ne-eqb}
 use native.Mathlib.Omega.{arith}
 use Rattle.refusal.specs.declared.Refusal.{Refusal}
-use Rattle.refusal.specs.declared.Refusal.the-variants.{Long, Syntax, Many, Count, Entry, Size, Body, Room, State, Range, Late, Record, Full, Line, Absent}
+use Rattle.refusal.specs.declared.Refusal.the-variants.{
+  Long,
+  Syntax,
+  Many,
+  Count,
+  Entry,
+  Size,
+  Body,
+  Room,
+  State,
+  Range,
+  Late,
+  Record,
+  Full,
+  Line,
+  Absent,
+}
 use Rattle.refusal.specs.Table.{numberOf}
 use Rattle.tally.specs.declared.Tally.{Tally}
 use Rattle.tally.specs.declared.Adding.{Adding}

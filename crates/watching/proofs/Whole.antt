@@ -124,7 +124,9 @@ module _ (b : List ℕ) (e : Pattern) (body : BodyOf argumentBytes b e) where
 begun-body : {p s s′ : List ℕ} (i : IsBegun p s s′) → BodyOf argumentBytes (take (i .bytes) (i .body)) (i .read .some .tree)
 begun-body i = record {
   bodied = record { proper = i .read .some .text .proper; few = i .read .few };
-  same = ap (take (i .bytes)) (i .read .written) ∙ take-at (encode argumentBytes (i .read .some .tree)) (drop (i .bytes) _) (i .bytes) (sym (i .read .counts));
+  same =
+      ap (take (i .bytes)) (i .read .written)
+      ∙ take-at (encode argumentBytes (i .read .some .tree)) (drop (i .bytes) _) (i .bytes) (sym (i .read .counts));
 }
 
 pub lines-agree : LinesAgree
