@@ -1,9 +1,7 @@
 -- One lemma for each way out of the code, over plain variables. Assumes nothing.
 use Prim.Native.Nat.{ℕ, _-_, _^_, _<_, _≤_}
-use mathlib.Core.Path.{_≡_, refl, ap, subst}
-use mathlib.Core.Bool.{cond}
+use mathlib.Core.Path.{_≡_, refl, subst}
 use mathlib.Core.List.{List, []}
-use lib.Dec.{eqb}
 use lib.ListN.{length, take}
 use borrow.Author.Tests.{eq-eqb, ne-eqb}
 use native.Mathlib.Omega.{arith}
@@ -45,7 +43,7 @@ use Rattle.watching.specs.declared.Beginning.{Beginning}
 use Rattle.watching.specs.declared.Beginning.the-variants as Begins
 use Rattle.watching.specs.declared.Stepping.{Stepping}
 use Rattle.watching.specs.declared.Stepping.the-variants as Steps
-use Rattle.watching.specs.Runs.{nextLine, tallyOf, wentOn, ended}
+use Rattle.watching.specs.Runs.{nextLine, tallyOf, wentOn}
 use Rattle.watching.specs.Answer.{
   noBody,
   IsBegun,
