@@ -2,3 +2,4 @@ pub mod Writings
 pub mod Takings
 pub mod Whole
 pub mod Unique
+pub mod Rooms

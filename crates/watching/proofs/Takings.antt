@@ -1,14 +1,28 @@
 -- One lemma for each way out of the code, over plain variables. Assumes nothing.
 use Prim.Native.Nat.{ℕ, _-_, _^_, _<_, _≤_}
-use mathlib.Core.Path.{_≡_, refl, ap, subst}
-use mathlib.Core.Bool.{cond}
+use mathlib.Core.Path.{_≡_, refl, subst}
 use mathlib.Core.List.{List, []}
-use lib.Dec.{eqb}
 use lib.ListN.{length, take}
 use borrow.Author.Tests.{eq-eqb, ne-eqb}
 use native.Mathlib.Omega.{arith}
 use Rattle.refusal.specs.declared.Refusal.{Refusal}
-use Rattle.refusal.specs.declared.Refusal.the-variants.{Long, Syntax, Many, Count, Entry, Size, Body, Room, State, Range, Late, Record, Full, Line, Absent}
+use Rattle.refusal.specs.declared.Refusal.the-variants.{
+  Long,
+  Syntax,
+  Many,
+  Count,
+  Entry,
+  Size,
+  Body,
+  Room,
+  State,
+  Range,
+  Late,
+  Record,
+  Full,
+  Line,
+  Absent,
+}
 use Rattle.refusal.specs.Table.{numberOf}
 use Rattle.tally.specs.declared.Tally.{Tally}
 use Rattle.tally.specs.declared.Adding.{Adding}
@@ -29,7 +43,7 @@ use Rattle.watching.specs.declared.Beginning.{Beginning}
 use Rattle.watching.specs.declared.Beginning.the-variants as Begins
 use Rattle.watching.specs.declared.Stepping.{Stepping}
 use Rattle.watching.specs.declared.Stepping.the-variants as Steps
-use Rattle.watching.specs.Runs.{nextLine, tallyOf, wentOn, ended}
+use Rattle.watching.specs.Runs.{nextLine, tallyOf, wentOn}
 use Rattle.watching.specs.Answer.{
   noBody,
   IsBegun,

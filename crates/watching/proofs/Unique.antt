@@ -1,10 +1,9 @@
 -- The promises leave no choice: each follows from the answers of reading, opening, ticking and adding, which are unique. Assumes nothing.
 use Prim.Native.Nat.{ℕ, _<_}
-use mathlib.Core.Path.{_≡_, refl, sym, ap, subst, _∙_}
+use mathlib.Core.Path.{_≡_, refl, sym, ap, _∙_}
 use mathlib.Core.List.{List, [], _++_}
 use lib.ListN.{take, drop}
 use native.Mathlib.Omega.{arith}
-use Rattle.refusal.specs.declared.Refusal.{Refusal}
 use Rattle.text.specs.declared.Reading.{Reading}
 use Rattle.text.specs.declared.Reading.the-variants as Reads
 use Rattle.text.specs.Answer.{ReadingOf}
@@ -30,7 +29,7 @@ use Rattle.watching.specs.declared.Beginning.the-variants as Begins
 use Rattle.watching.specs.declared.Stepping.{Stepping}
 use Rattle.watching.specs.declared.Stepping.the-variants as Steps
 use Rattle.watching.specs.Runs.{tallyOf, wentOn, ended}
-use Rattle.watching.specs.Answer.{noBody, BeginAnswers, IsStepped, StepAnswers, Windowed, LineTaken, IsTaken, refusing}
+use Rattle.watching.specs.Answer.{noBody, BeginAnswers, StepAnswers, Windowed, LineTaken, refusing}
 use Rattle.watching.specs.Answer.BeginRefused.{unread as no-text, unopened}
 use Rattle.watching.specs.Answer.StepRefused.{unread as no-tick, unticked}
 use Rattle.watching.specs.Answer.Windowed.{added, full}

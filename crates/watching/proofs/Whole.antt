@@ -1,6 +1,6 @@
 -- As long as no line is refused the state is a watched one, so each tick's window is the rules' own. Assumes nothing.
 use Prim.Native.Nat.{ℕ, suc, _≤_, _<_}
-use mathlib.Core.Path.{_≡_, refl, sym, ap, subst, _∙_}
+use mathlib.Core.Path.{_≡_, refl, sym, ap, _∙_}
 use mathlib.Core.List.{List, [], _∷_, _++_}
 use lib.ListN.{length, take, drop}
 use lib.Seq.{take-at}
@@ -8,14 +8,12 @@ use borrow.Author.Tests.{eq-eqb}
 use native.Mathlib.Omega.{arith}
 use Rattle.rules.specs.Limits.{argumentBytes}
 use Rattle.rules.specs.Pattern.{Pattern}
-use Rattle.rules.specs.Instances.{Has, Latest}
-use Rattle.rules.specs.History.{Tick, Rising, nextTick, recordOf}
+use Rattle.rules.specs.History.{Tick, Rising, nextTick}
 use Rattle.detector.proofs.History.{nextTick-snoc}
 use Rattle.body.specs.Postfix.{encode}
 use Rattle.body.specs.Claim.{BodyOf}
 use Rattle.watcher.specs.declared.Ticking.{Ticking}
 use Rattle.watcher.specs.declared.Ticking.the-variants as Ticks
-use Rattle.watcher.specs.Answer.{TickAnswers}
 use Rattle.watcher.specs.Claim.{Watched, opened, window as windowed, nothing as unmoved}
 use Rattle.watcher.proofs.Agrees.{watched-reached}
 use Rattle.watcher.proofs.Theorem.{agrees}
@@ -30,9 +28,9 @@ use Rattle.watching.specs.Runs.{fresh, tallyOf, wentOn, finishLine}
 use Rattle.watching.specs.Answer.{IsBegun, IsStepped, LineTaken}
 use Rattle.watching.specs.Answer.Windowed.{added, full}
 use Rattle.watching.specs.Answer.LineTaken.{begun, unbegun, window, nothing, refused, after}
-use Rattle.watching.specs.Whole.{linesOf, Takes, Prints}
+use Rattle.watching.specs.Whole.{Takes}
 use Rattle.watching.specs.Whole.Takes.{none, more}
-use Rattle.watching.specs.Claim.{AreTicks, Reports, windowLines, Agreed, LinesAgree, OutputAgrees}
+use Rattle.watching.specs.Claim.{AreTicks, Reports, windowLines, LinesAgree, OutputAgrees}
 use Rattle.watching.specs.Claim.AreTicks.{none as no-lines, tick as line}
 use Rattle.watching.specs.Claim.Reports.{none as no-reports, tick as report}
 
@@ -124,7 +122,9 @@ module _ (b : List ℕ) (e : Pattern) (body : BodyOf argumentBytes b e) where
 begun-body : {p s s′ : List ℕ} (i : IsBegun p s s′) → BodyOf argumentBytes (take (i .bytes) (i .body)) (i .read .some .tree)
 begun-body i = record {
   bodied = record { proper = i .read .some .text .proper; few = i .read .few };
-  same = ap (take (i .bytes)) (i .read .written) ∙ take-at (encode argumentBytes (i .read .some .tree)) (drop (i .bytes) _) (i .bytes) (sym (i .read .counts));
+  same =
+      ap (take (i .bytes)) (i .read .written)
+      ∙ take-at (encode argumentBytes (i .read .some .tree)) (drop (i .bytes) _) (i .bytes) (sym (i .read .counts));
 }
 
 pub lines-agree : LinesAgree

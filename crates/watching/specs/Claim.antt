@@ -1,12 +1,14 @@
 -- What is claimed of a whole input: demand 3, on what is written; and that the promises leave no choice. Assumes nothing: these are definitions.
-use Prim.Native.Nat.{ℕ, suc, zero}
+use Prim.Native.Nat.{ℕ, suc, zero, _≤_}
 use mathlib.Core.Path.{_≡_}
 use mathlib.Core.List.{List, [], _∷_, _++_}
 use lib.ListN.{length}
-use Rattle.rules.specs.Pattern.{Pattern}
+use Rattle.rules.specs.Limits.{mostEntries}
+use Rattle.rules.specs.Pattern.{Pattern, size}
 use Rattle.rules.specs.Instances.{Has, Latest}
 use Rattle.rules.specs.History.{Tick, Rising, recordOf}
 use Rattle.text.specs.Grammar.{TextOf}
+use Rattle.watcher.specs.State.{roomOf}
 use Rattle.tally.specs.Claim.{Window, span}
 use Rattle.line.specs.Lines.{windowLine, tallyLine}
 use Rattle.line.specs.Answer.{IsTick}
@@ -70,3 +72,7 @@ OneTaking =
 -- nor that of finishing
 abbrev pub OneFinish : Type 0
 OneFinish = (run : Run) (d d₁ d₂ : List ℕ) (n₁ n₂ : ℕ) → IsFinished run d d₁ n₁ → IsFinished run d d₂ n₂ → (n₁ ≡ n₂) × (d₁ ≡ d₂)
+
+-- the words that the program lends are enough for the state of any pattern
+abbrev pub RoomEnough : Type 0
+RoomEnough = (e : Pattern) → size e ≤ mostEntries → roomOf e ≤ 4096

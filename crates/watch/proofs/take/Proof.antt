@@ -29,7 +29,8 @@ long c = omega arith
 add-t15 : tie.Need-add-t15
 add-t15 c =
     let taken = c .before .before .before .before .before .before in
-    omega (arith, simp (length-take, length-drop) at (taken .take-line .ensures .written .fits), long (taken .before .before .before .before .before .before .before .before .before))
+    let s = taken .before .before .before .before .before .before .before .before .before in
+    omega (arith, simp (length-take, length-drop) at (taken .take-line .ensures .written .fits), long s)
 
 same-length : tie.Need-same-length
 same-length c = search needs

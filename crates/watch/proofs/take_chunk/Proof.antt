@@ -3,7 +3,6 @@ use Prim.Native.Nat.{_-_, _≤_}
 use mathlib.Core.Path.{_≡_}
 use lib.ListN.{length}
 use borrow.Author.Needs.{needs}
-use native.Mathlib.Omega.{arith}
 use Rattle.watch.proofs.take_chunk.Statement.{statement}
 use Rattle.watch.proofs.take_chunk.Tie as tie
 

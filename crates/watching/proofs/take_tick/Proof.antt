@@ -36,7 +36,8 @@ returns c =
     let known = c .before .before .before .before .before in
     let steps = known .before .before .before .before in
     let s = steps .before .before .before .before .before in
-    is-window _ _ _ _ _ _ _ (steps .step .result) _ _ (s .pre .0) (steps .step .ensures) (known .start .given .1) (c .before .before .take-window .ensures)
+    is-window _ _ _ _ _ _ _ (steps .step .result) _ _ (s .pre .0) (steps .step .ensures) (known .start .given .1)
+    (c .before .before .take-window .ensures)
 
 same-length-3 : tie.Need-same-length-3
 same-length-3 c = search needs
