@@ -1,6 +1,7 @@
 // The cases of document 01 that are run. Each prints its name, then a refusal's number, place and entry, 0 0 0 where nothing is refused.
 mod bodies;
 mod files;
+mod runs;
 mod sets;
 mod show;
 mod texts;
@@ -12,4 +13,5 @@ fn main() {
     watches::run();
     sets::run();
     files::run();
+    runs::run();
 }

@@ -21,6 +21,13 @@ pub fn refused(name: &[u8], r: Refusal) {
     );
 }
 
+// The first bytes of a slice, if it has so many.
+pub fn first(bytes: &[u8], n: usize) {
+    if n <= bytes.len() {
+        io::write_all(STDOUT_FILENO, &bytes[0..n]);
+    }
+}
+
 fn number(n: u64) {
     io::write_all(STDOUT_FILENO, b" ");
     io::print_decimal(STDOUT_FILENO, n);

@@ -52,7 +52,7 @@ fn print(name: &[u8], pattern: &[u8]) {
     let mut back = [0u8; 807];
     let long = print_bytes(&body, bytes, &mut back);
     io::write_all(STDOUT_FILENO, name);
-    write_first(&back, long);
+    show::first(&back, long);
     io::write_all(STDOUT_FILENO, b"\n");
 }
 
@@ -72,11 +72,5 @@ fn print_bytes(body: &[u8], bytes: usize, back: &mut [u8]) -> usize {
     match text::print_pattern(&body[0..bytes], back) {
         Printing::Printed(long) => long,
         Printing::Refused(_) => 0,
-    }
-}
-
-fn write_first(bytes: &[u8], n: usize) {
-    if n <= bytes.len() {
-        io::write_all(STDOUT_FILENO, &bytes[0..n]);
     }
 }
