@@ -1,0 +1,5 @@
+//! The rules once more, written from their document alone and for plainness alone: nothing here knows the library's code.
+pub mod body;
+pub mod instances;
+pub mod tally;
+pub mod text;
