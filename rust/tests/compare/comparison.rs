@@ -9,6 +9,7 @@ pub struct Comparison {
     name: &'static str,
     seed: u64,
     calls: u64,
+    accepted: u64,
     pub random: Random,
 }
 
@@ -23,14 +24,14 @@ impl<T: Copy + Into<u64> + Debug> Given for &[T] {
     }
 }
 
-/// Runs rounds of comparisons and prints how many calls were compared.
+/// Runs rounds of comparisons and prints how many calls were compared, and how many of them were not refused.
 pub fn rounds(name: &'static str, count: u64, mut round: impl FnMut(&mut Comparison)) {
     let seed = number("MWS_SEED", 1);
-    let mut run = Comparison { name, seed, calls: 0, random: Random::new(seed) };
+    let mut run = Comparison { name, seed, calls: 0, accepted: 0, random: Random::new(seed) };
     for _ in 0..count * number("MWS_ROUNDS", 1) {
         round(&mut run);
     }
-    writeln!(stderr(), "{name}: seed {seed}, {} calls compared", run.calls).unwrap();
+    writeln!(stderr(), "{name}: seed {seed}, {} calls compared, {} accepted", run.calls, run.accepted).unwrap();
 }
 
 fn number(variable: &str, otherwise: u64) -> u64 {
@@ -62,17 +63,18 @@ impl Comparison {
         );
         assert!(answer.is_ok() || *lent == before, "a refused call changed what it was lent");
         self.calls += 1;
+        self.accepted += u64::from(answer.is_ok());
         answer.ok()
     }
 
     /// As `compare`, of a call that is lent nothing to write.
-    pub fn answers<A: PartialEq + Debug>(
+    pub fn answers<A: PartialEq + Debug, R: PartialEq + Debug>(
         &mut self,
         given: &[&dyn Given],
-        library: impl FnOnce() -> A,
-        rules: impl FnOnce() -> A,
-    ) {
-        self.compare(given, &mut (), |_| Ok::<A, ()>(library()), |_| Ok(rules()));
+        library: impl FnOnce() -> Result<A, R>,
+        rules: impl FnOnce() -> Result<A, R>,
+    ) -> Option<A> {
+        self.compare(given, &mut (), |_| library(), |_| rules())
     }
 }
 
@@ -91,6 +93,12 @@ impl Lent<u8> {
 impl Lent<u64> {
     pub fn words(random: &mut Random, room: usize) -> Self {
         Lent((0..room + 2 * MARGIN).map(|_| random.word()).collect())
+    }
+
+    pub fn holding(random: &mut Random, words: &[u64]) -> Self {
+        let mut lent = Lent::words(random, words.len());
+        lent.part().copy_from_slice(words);
+        lent
     }
 }
 

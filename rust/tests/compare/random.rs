@@ -81,8 +81,8 @@ impl Random {
     /// The tick after the last, mostly soon.
     pub fn later(&mut self, next: u64) -> u64 {
         match self.below(40) {
-            0 => next + (self.word() >> 36),
-            1..=5 => next + self.below(9) as u64,
+            0 => next.saturating_add(self.word() >> 36),
+            1..=5 => next.saturating_add(self.below(9) as u64),
             _ => next,
         }
     }
