@@ -6,5 +6,7 @@ mod comparison;
 mod random;
 mod rules;
 
+mod files;
 mod patterns;
+mod sets;
 mod watching;
