@@ -2,6 +2,8 @@
 //!
 //! Each comparison prints its seed and how many calls it compared. `MWS_SEED` gives another seed, `MWS_ROUNDS` multiplies
 //! the rounds.
+use mws::Tally;
+
 mod comparison;
 mod random;
 mod rules;
@@ -10,3 +12,4 @@ mod files;
 mod patterns;
 mod sets;
 mod watching;
+mod words;
