@@ -120,6 +120,7 @@ fn damaged_states_are_refused_or_ticked_as_the_rules_say() {
             let events = run.random.events(LETTERS);
             take(run, &mut lent, tick, events);
             take(run, &mut lent, tick.saturating_add(1), events >> 1);
+            take(run, &mut lent, mws::LAST_TICK, events);
         }
     });
 }
@@ -152,7 +153,7 @@ fn rise(cells: &mut [u64]) {
     }
 }
 
-/// A copy with a word or two changed, or cut short.
+/// A copy with a word or two changed, with a next tick near the limit, or cut short.
 fn damaged(random: &mut Random, words: &[u64]) -> Lent<u64> {
     let mut words = words.to_vec();
     for _ in 0..random.below(3) {
@@ -165,6 +166,9 @@ fn damaged(random: &mut Random, words: &[u64]) -> Lent<u64> {
             4 => words[random.below(words.len())],
             _ => random.below(7) as u64,
         };
+    }
+    if random.one_in(12) {
+        words[1] = mws::LAST_TICK + random.below(4) as u64;
     }
     if random.one_in(12) {
         words.truncate(random.below(words.len() + 1));
