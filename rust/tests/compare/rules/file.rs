@@ -14,15 +14,18 @@ pub fn check(file: &[u8]) -> Result<(), Refusal> {
     parts(file).map(|_| ())
 }
 
-/// The names of a sound file with the parts that are their bodies.
-pub fn parts(file: &[u8]) -> Result<Vec<(&[u8], Range<usize>)>, Refusal> {
+/// A name, and the part of its file that is the body.
+type Part<'a> = (&'a [u8], Range<usize>);
+
+/// The parts of a sound file.
+pub fn parts(file: &[u8]) -> Result<Vec<Part<'_>>, Refusal> {
     let count = usize::from(*file.first().ok_or(Refusal::Count)?);
     let contents = 1 + 12 * count;
     if !(1..=16).contains(&count) || file.len() < contents {
         return Err(Refusal::Count);
     }
     let mut from = contents;
-    let mut parts: Vec<(&[u8], Range<usize>)> = Vec::new();
+    let mut parts: Vec<Part> = Vec::new();
     for (index, line) in file[1..contents].chunks(12).enumerate() {
         let entry = Line { name: &line[..8], entries: line[10] };
         let offset = usize::from(u16::from_le_bytes([line[8], line[9]]));

@@ -54,8 +54,8 @@ pub fn of_each(entries: &[Entry], ticks: &[u64], events: &[u32]) -> Vec<Instance
 
 fn of_letter(event: u32, events: &[u32]) -> Instances {
     let mut found = Instances::none(events.len());
-    for tick in 0..events.len() {
-        if events[tick] >> event & 1 == 1 {
+    for (tick, events) in events.iter().enumerate() {
+        if events >> event & 1 == 1 {
             found.mark(tick, tick);
         }
     }
