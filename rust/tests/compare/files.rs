@@ -6,7 +6,6 @@ use crate::rules::{body, file};
 const LIKELY: &[u8] = &[0, 1, 2, 3, 4, 5, 13, 16, 17, 63, 64, b' ', b'A', b'Z', b'0', b'a', b'['];
 
 /// What the writer takes.
-#[derive(Clone)]
 pub struct Parts {
     pub names: Vec<u8>,
     pub counts: Vec<u8>,

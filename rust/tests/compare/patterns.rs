@@ -1,11 +1,10 @@
 //! Text, bodies, the plain evaluation and the tally.
 use crate::comparison::{rounds, Comparison, Lent};
-use crate::random::Random;
+use crate::random::{Random, SMALL};
 use crate::rules::{body, instances, tally, text};
 use mws::Tally;
 
 const MARKS: &[u8] = b"()|+-;@0123456789ABZafg (((;;)))";
-const SMALL: &[u8] = &[0, 0, 1, 2, 3, 4, 5, 6, 31, 32];
 
 #[test]
 fn text_is_read_as_the_rules_say() {

@@ -1,6 +1,9 @@
 //! Random patterns, records and damage, the same for the same seed.
 use crate::rules::body::{Entry, LETTER, THEN, WITHIN};
 
+/// Bytes that damage a body without making it noise.
+pub const SMALL: &[u8] = &[0, 0, 1, 2, 3, 4, 5, 6, 31, 32];
+
 pub struct Random(u64);
 
 impl Random {

@@ -1,10 +1,9 @@
 //! The watcher: room, opening, ticks and feeds.
 use crate::comparison::{rounds, Comparison, Lent};
-use crate::random::Random;
+use crate::random::{Random, SMALL};
 use crate::rules::body::{self, Entry};
 use crate::rules::{instances, state};
 
-const SMALL: &[u8] = &[0, 0, 1, 2, 3, 4, 5, 6, 31, 32];
 const LETTERS: usize = 4;
 
 #[test]

@@ -1,14 +1,13 @@
 //! The single words that calls tell their answers in: a refused call keeps them, which only the calls of C can show.
 use crate::comparison::{rounds, Comparison};
 use crate::files::any_file;
+use crate::random::SMALL;
 use crate::rules::{body, file, set, state, text};
 use mws::Found;
 
 #[allow(dead_code)]
 #[path = "../../src/calls.rs"]
 mod calls;
-
-const SMALL: &[u8] = &[0, 0, 1, 2, 3, 4, 5, 6, 31, 32];
 
 /// Compares the word that a call is lent: what the rules tell, or what it was.
 fn word<R>(run: &mut Comparison, told: Result<usize, R>, call: impl FnOnce(&mut u64) -> u64) {
