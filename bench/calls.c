@@ -1,4 +1,5 @@
-/* Nanoseconds a call beside the same written by hand, both built for release, in one run: a set of 16 patterns at a tick, the plain evaluator, text read. */
+/* Nanoseconds a call beside the same written by hand, both built for release, in one run: many ticks fed, a set of 16 patterns at a tick,
+   the plain evaluator, text read. */
 #include "by_hand.h"
 
 static const char *most =
@@ -124,6 +125,27 @@ static void measure_plain(void) {
     say("plain, 63 entries, 64 ticks", best_one, best_two);
 }
 
+static void measure_feed(void) {
+    static uint64_t ticks[50000], answers[50000];
+    uint8_t body[30];
+    uint64_t bytes = 0, one[11], two[11], answer = 0;
+    double best_one = 1e9, best_two = 1e9;
+    mws_text_read((const uint8_t *)"(((S;P)@600)-Y)", 15, body, sizeof body, &bytes);
+    for (int i = 0; i < 50000; i++) ticks[i] = i;
+    for (int r = 0; r < 7; r++) {
+        if (mws_watch_open(body, bytes, one, 11) || mws_watch_open(body, bytes, two, 11)) exit(1);
+        double a = now();
+        if (mws_watch_feed(one, 11, ticks, 50000, events, 50000, answers, 50000)) exit(1);
+        double b = now();
+        for (int i = 0; i < 50000; i++) by_hand(two, 11, i, events[i], &answer);
+        double c = now();
+        if (b - a < best_one * 50000) best_one = (b - a) / 50000;
+        if (c - b < best_two * 50000) best_two = (c - b) / 50000;
+        if (memcmp(one, two, sizeof one) || answers[49999] != answer) exit(1);
+    }
+    say("feed, 6 entries, a tick", best_one, best_two);
+}
+
 static void measure_set(void) {
     uint8_t body[30], bodies[16 * 30], names[16 * 8], counts[16], file[1024];
     uint64_t bytes = 0, words = 0, one[16 * 11], two[16 * 11], answers[16], answer = 0;
@@ -159,6 +181,7 @@ int main(void) {
         events[i] = kind < 96 ? 1u << (kind % 7) : kind < 110 ? 1u << 18 : kind < 124 ? 1u << 15 : kind < 126 ? 1u << 24 : 0;
     }
     printf("%-32s %10s %10s %6s\n", "call", "proved ns", "by hand", "ratio");
+    measure_feed();
     measure_set();
     measure_plain();
     measure_text();
