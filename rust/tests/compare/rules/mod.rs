@@ -1,4 +1,5 @@
-//! The rules once more, written from their document alone and for plainness alone: nothing here knows the library's code.
+//! The rules once more, written from their document and for plainness alone. Only `feed`, which the document does not describe, follows what
+//! the library's own pages and code say of its refusals.
 pub mod body;
 pub mod file;
 pub mod instances;
