@@ -16,7 +16,7 @@ ghost use Rattle.body.specs.Check.{checkOf};
 ghost use Rattle.watcher.specs.Answer.{RoomAnswers, OpenAnswers, TickAnswers};
 ghost use Rattle.watcher.specs.Feed.{FeedAnswers, firstFault};
 ghost use Rattle.watcher.specs.Walk.{cellsNeeded, wordsOpened};
-ghost use Rattle.watcher.specs.State.{wordOf};
+ghost use Rattle.watcher.specs.State.{wordOf, InForm};
 ghost use Rattle.watcher.specs.Form.{Narrow, Put, wordsOf, zeros, OpenReady};
 
 // How many words a state takes.
@@ -81,16 +81,27 @@ pub fn tick(state: &mut [u64], t: u64, events: u32) -> Ticking
         return Ticking::Refused(Refusal::Range);
     }
     if 0 < form::extent(state) {
-        if t < state[1] {
-            return Ticking::Refused(Refusal::Late(0));
-        }
-        let answer = walk::step(state, t, events);
-        if answer == 0 {
-            return Ticking::Nothing;
-        }
-        return Ticking::Window(answer - 1);
+        return tick_in_form(state, t, events);
     }
     Ticking::Refused(Refusal::State(0))
+}
+
+// The same for a state known to be in form: opening makes it so, and a tick keeps it so. It is not judged again.
+pub fn tick_in_form(state: &mut [u64], t: u64, events: u32) -> Ticking
+    requires { ⌜ InForm (now state) ⌝ }
+    ensures { λ r. ⌜ TickAnswers (now (state .entry)) (now (state .exit)) t events r ⌝ }
+{
+    if 4294967295 < t {
+        return Ticking::Refused(Refusal::Range);
+    }
+    if t < state[1] {
+        return Ticking::Refused(Refusal::Late(0));
+    }
+    let answer = walk::step(state, t, events);
+    if answer == 0 {
+        return Ticking::Nothing;
+    }
+    Ticking::Window(answer - 1)
 }
 
 // Takes ticks with their events, one after the other, the state judged once: an answer for each tick, start + 1 or 0.
