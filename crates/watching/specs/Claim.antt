@@ -17,6 +17,9 @@ use Rattle.watching.specs.declared.Taken.{Taken}
 use Rattle.watching.specs.Runs.{fresh}
 use Rattle.watching.specs.Answer.{IsTaken, IsFinished}
 use Rattle.watching.specs.Whole.{linesOf, Takes, Prints}
+use Rattle.watching.specs.declared.Chunked.{Chunked}
+use Rattle.watching.specs.declared.Finishing.{Finishing}
+use Rattle.watching.specs.Chunk.{Watches, Ends, IsChunked, FinishAnswers}
 
 -- lines that are each the line of a tick: the ticks
 pub data AreTicks : List (List ℕ) → List Tick → Type 0 where
@@ -62,6 +65,23 @@ abbrev pub OutputAgrees : Type 0
 OutputAgrees =
     (s input output p : List ℕ) (ls : List (List ℕ)) (x : Prints s input output) → linesOf input ≡ p ∷ ls → x .run .phase ≡ 1
     → (a : Agreed p ls (x .bytes) (x .run)) × (output ≡ windowLines (a .windows) ++ tallyLine (length (a .windows)) (span (a .windows)))
+
+-- however an input is cut into chunks, and whatever room each finds, what is written for it is what is written for its lines
+abbrev pub PiecesPrint : Type 0
+PiecesPrint =
+    (s s₁ s′ input bytes last h : List ℕ) (run : Run) → Watches fresh [] s input run h s₁ bytes → Ends run h s₁ s′ last → Prints s input (bytes ++ last)
+
+-- no second answer, state, held bytes and output meet the promise of taking a chunk
+abbrev pub OneChunk : Type 0
+OneChunk =
+    (run : Run) (held : ℕ) (chunk p p₁ p₂ s s₁ s₂ d d₁ d₂ : List ℕ) (r₁ r₂ : Chunked) → IsChunked run held chunk p p₁ s s₁ d d₁ r₁
+    → IsChunked run held chunk p p₂ s s₂ d d₂ r₂ → (r₁ ≡ r₂) × (p₁ ≡ p₂) × (s₁ ≡ s₂) × (d₁ ≡ d₂)
+
+-- nor that of finishing
+abbrev pub OneEnd : Type 0
+OneEnd =
+    (run : Run) (held : ℕ) (p s s₁ s₂ d d₁ d₂ : List ℕ) (r₁ r₂ : Finishing) → FinishAnswers run held p s s₁ d d₁ r₁
+    → FinishAnswers run held p s s₂ d d₂ r₂ → (r₁ ≡ r₂) × (s₁ ≡ s₂) × (d₁ ≡ d₂)
 
 -- no second answer, state and output meet the promise of taking a line
 abbrev pub OneTaking : Type 0

@@ -1,4 +1,5 @@
 pub mod Runs
 pub mod Answer
 pub mod Whole
+pub mod Chunk
 pub mod Claim

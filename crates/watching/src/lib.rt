@@ -28,6 +28,20 @@ pub struct Taken {
     pub written: usize,
 }
 
+// What taking a chunk of input answers: the run after it, the bytes held of a line that has not ended, the bytes of the chunk taken, and those written.
+pub struct Chunked {
+    pub run: Run,
+    pub held: usize,
+    pub used: usize,
+    pub written: usize,
+}
+
+// What finishing answers: the bytes written, or why nothing was done.
+pub enum Finishing {
+    Finished(usize),
+    Refused(Refusal),
+}
+
 // What line 1 answers.
 pub enum Beginning {
     Begun,

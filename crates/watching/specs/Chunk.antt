@@ -1,0 +1,76 @@
+-- Input taken in pieces, as it is read: the bytes held of a line that has not ended, and what is written for the lines that end.
+-- Assumes nothing: these are definitions.
+use Prim.Native.Nat.{ℕ, _+_, _-_, _<_, _≤_}
+use mathlib.Core.Path.{_≡_}
+use mathlib.Core.Bool.{cond}
+use mathlib.Core.List.{List, [], _∷_, _++_}
+use lib.Dec.{eqb}
+use lib.ListN.{length, take, drop}
+use Rattle.refusal.specs.declared.Refusal.{Refusal}
+use Rattle.refusal.specs.declared.Refusal.the-variants.{Room}
+use Rattle.line.specs.Lines.{mostWritten}
+use Rattle.line.specs.Answer.{IsWritten}
+use Rattle.watching.specs.declared.Run.{Run}
+use Rattle.watching.specs.declared.Chunked.{Chunked}
+use Rattle.watching.specs.declared.Finishing.{Finishing}
+use Rattle.watching.specs.declared.Finishing.the-variants.{Finished, Refused}
+use Rattle.watching.specs.Runs.{finishLine}
+use Rattle.watching.specs.Answer.{LineTaken}
+use Rattle.watching.specs.Whole.{lastLine, Takes}
+
+-- so many bytes of a line tell that it is too long
+abbrev pub mostHeld : ℕ
+mostHeld = 1025
+
+-- the bytes held of a line, with a byte more of it
+abbrev pub hold : List ℕ → ℕ → List ℕ
+hold h c = take mostHeld (h ++ (c ∷ []))
+
+-- bytes taken one after the other, where h is held and there is this room for output: the run, the bytes held and the state after them, what is
+-- written, and the bytes left. A line feed ends the line; where a line might find no room, nothing more is taken
+pub data Bites : ℕ → Run → List ℕ → List ℕ → List ℕ → Run → List ℕ → List ℕ → List ℕ → List ℕ → Type 0 where
+  all : {room : ℕ} {run : Run} {h s : List ℕ} → Bites room run h s [] run h s [] []
+  full : {room c : ℕ} {run : Run} {h s input : List ℕ} → room < mostWritten → Bites room run h s (c ∷ input) run h s [] (c ∷ input)
+  byte : {room c : ℕ} {run run′ : Run} {h h′ s s′ input bytes left : List ℕ} → mostWritten ≤ room → (c ≡ 10 → ⊥)
+      → Bites room run (hold h c) s input run′ h′ s′ bytes left → Bites room run h s (c ∷ input) run′ h′ s′ bytes left
+  line : {room : ℕ} {run run₁ run′ : Run} {h h′ s s₁ s′ input bytes rest left : List ℕ} → mostWritten ≤ room → LineTaken run h s s₁ run₁ bytes
+      → Bites (room - length bytes) run₁ [] s₁ input run′ h′ s′ rest left → Bites room run h s (10 ∷ input) run′ h′ s′ (bytes ++ rest) left
+
+-- the promise of taking a chunk: the first `held` bytes of p are held before; those held after stand first in p′, and what is written first in d′
+pub record IsChunked (run : Run) (held : ℕ) (chunk p p′ s s′ d d′ : List ℕ) (r : Chunked) : Type 0 where
+  pub bytes : List ℕ
+  pub kept : List ℕ
+  pub left : List ℕ
+  pub taken : Bites (length d) run (take held p) s chunk (r .run) kept s′ bytes left
+  pub used : r .used + length left ≡ length chunk
+  pub counts : r .held ≡ length kept
+  pub holds : p′ ≡ kept ++ drop (length kept) p
+  pub written : IsWritten bytes d d′ (r .written)
+
+-- the lines that the end of input ends: what is held, if anything; and line 1, if there was none
+abbrev pub lastLines : Run → List ℕ → List (List ℕ)
+lastLines run [] = cond (eqb (run .phase) 0) ([] ∷ []) []
+lastLines run (c ∷ h) = (c ∷ h) ∷ []
+
+-- the output at the end of input, where h is held: what the last line writes, and then the tally of a run that no refusal ended
+pub record Ends (run : Run) (h s s′ output : List ℕ) : Type 0 where
+  pub last : Run
+  pub bytes : List ℕ
+  pub takes : Takes run s (lastLines run h) last s′ bytes
+  pub whole : output ≡ bytes ++ finishLine last
+
+-- finishing needs room for two lines
+abbrev pub mostFinish : ℕ
+mostFinish = mostWritten + mostWritten
+
+-- the promise of finishing, where the first `held` bytes of p are held; for want of room nothing is done
+abbrev pub FinishAnswers : Run → ℕ → List ℕ → List ℕ → List ℕ → List ℕ → List ℕ → Finishing → Type 0
+FinishAnswers run held p s s′ d d′ (Finished n) =
+    (mostFinish ≤ length d) × ((output : List ℕ) × Ends run (take held p) s s′ output × IsWritten output d d′ n)
+FinishAnswers run held p s s′ d d′ (Refused r) = (length d < mostFinish) × (r ≡ Room mostFinish) × (s′ ≡ s) × (d′ ≡ d)
+
+-- an input taken in chunks of any size, with any room each time: what a chunk leaves comes first in the next
+pub data Watches : Run → List ℕ → List ℕ → List ℕ → Run → List ℕ → List ℕ → List ℕ → Type 0 where
+  end : {run : Run} {h s : List ℕ} → Watches run h s [] run h s []
+  more : {room : ℕ} {run run₁ run′ : Run} {h h₁ h′ s s₁ s′ chunk bytes rest left : List ℕ} (later : List ℕ)
+      → Bites room run h s chunk run₁ h₁ s₁ bytes left → Watches run₁ h₁ s₁ (left ++ later) run′ h′ s′ rest → Watches run h s (chunk ++ later) run′ h′ s′ (bytes ++ rest)
