@@ -1,6 +1,6 @@
 -- Input taken in pieces, as it is read: the bytes held of a line that has not ended, and what is written for the lines that end.
 -- Assumes nothing: these are definitions.
-use Prim.Native.Nat.{ℕ, _+_, _-_, _<_, _≤_}
+use Prim.Native.Nat.{ℕ, _+_, _-_, _<_, _≤_, min}
 use mathlib.Core.Path.{_≡_}
 use mathlib.Core.Bool.{cond}
 use mathlib.Core.List.{List, [], _∷_, _++_}
@@ -12,8 +12,10 @@ use Rattle.line.specs.Lines.{mostWritten}
 use Rattle.line.specs.Answer.{IsWritten}
 use Rattle.watching.specs.declared.Run.{Run}
 use Rattle.watching.specs.declared.Chunked.{Chunked}
+use Rattle.watching.specs.declared.Chunking.{Chunking}
+use Rattle.watching.specs.declared.Chunking.the-variants as Chunks
 use Rattle.watching.specs.declared.Finishing.{Finishing}
-use Rattle.watching.specs.declared.Finishing.the-variants.{Finished, Refused}
+use Rattle.watching.specs.declared.Finishing.the-variants as Ending
 use Rattle.watching.specs.Runs.{finishLine}
 use Rattle.watching.specs.Answer.{LineTaken}
 use Rattle.watching.specs.Whole.{lastLine, Takes}
@@ -36,16 +38,25 @@ pub data Bites : ℕ → Run → List ℕ → List ℕ → List ℕ → Run → 
   line : {room : ℕ} {run run₁ run′ : Run} {h h′ s s₁ s′ input bytes rest left : List ℕ} → mostWritten ≤ room → LineTaken run h s s₁ run₁ bytes
       → Bites (room - length bytes) run₁ [] s₁ input run′ h′ s′ rest left → Bites room run h s (10 ∷ input) run′ h′ s′ (bytes ++ rest) left
 
--- the promise of taking a chunk: the first `held` bytes of p are held before; those held after stand first in p′, and what is written first in d′
+-- the bytes held in p
+abbrev pub heldIn : ℕ → List ℕ → List ℕ
+heldIn held p = take (min held mostHeld) p
+
+-- a chunk taken: the bytes held after it stand first in p′, and what is written first in d′
 pub record IsChunked (run : Run) (held : ℕ) (chunk p p′ s s′ d d′ : List ℕ) (r : Chunked) : Type 0 where
   pub bytes : List ℕ
   pub kept : List ℕ
   pub left : List ℕ
-  pub taken : Bites (length d) run (take held p) s chunk (r .run) kept s′ bytes left
+  pub taken : Bites (length d) run (heldIn held p) s chunk (r .run) kept s′ bytes left
   pub used : r .used + length left ≡ length chunk
   pub counts : r .held ≡ length kept
   pub holds : p′ ≡ kept ++ drop (length kept) p
   pub written : IsWritten bytes d d′ (r .written)
+
+-- the promise of taking a chunk, where p holds the bytes held; if p is too short for a line nothing is done
+abbrev pub ChunkAnswers : Run → ℕ → List ℕ → List ℕ → List ℕ → List ℕ → List ℕ → List ℕ → List ℕ → Chunking → Type 0
+ChunkAnswers run held chunk p p′ s s′ d d′ (Chunks.Taken r) = (mostHeld ≤ length p) × IsChunked run held chunk p p′ s s′ d d′ r
+ChunkAnswers run held chunk p p′ s s′ d d′ (Chunks.Refused r) = (length p < mostHeld) × (r ≡ Room mostHeld) × (p′ ≡ p) × (s′ ≡ s) × (d′ ≡ d)
 
 -- the lines that the end of input ends: what is held, if anything; and line 1, if there was none
 abbrev pub lastLines : Run → List ℕ → List (List ℕ)
@@ -63,11 +74,11 @@ pub record Ends (run : Run) (h s s′ output : List ℕ) : Type 0 where
 abbrev pub mostFinish : ℕ
 mostFinish = mostWritten + mostWritten
 
--- the promise of finishing, where the first `held` bytes of p are held; for want of room nothing is done
+-- the promise of finishing, where p holds the bytes held; for want of room nothing is done
 abbrev pub FinishAnswers : Run → ℕ → List ℕ → List ℕ → List ℕ → List ℕ → List ℕ → Finishing → Type 0
-FinishAnswers run held p s s′ d d′ (Finished n) =
-    (mostFinish ≤ length d) × ((output : List ℕ) × Ends run (take held p) s s′ output × IsWritten output d d′ n)
-FinishAnswers run held p s s′ d d′ (Refused r) = (length d < mostFinish) × (r ≡ Room mostFinish) × (s′ ≡ s) × (d′ ≡ d)
+FinishAnswers run held p s s′ d d′ (Ending.Finished n) =
+    (mostFinish ≤ length d) × ((output : List ℕ) × Ends run (heldIn held p) s s′ output × IsWritten output d d′ n)
+FinishAnswers run held p s s′ d d′ (Ending.Refused r) = (length d < mostFinish) × (r ≡ Room mostFinish) × (s′ ≡ s) × (d′ ≡ d)
 
 -- an input taken in chunks of any size, with any room each time: what a chunk leaves comes first in the next
 pub data Watches : Run → List ℕ → List ℕ → List ℕ → Run → List ℕ → List ℕ → List ℕ → Type 0 where

@@ -17,9 +17,9 @@ use Rattle.watching.specs.declared.Taken.{Taken}
 use Rattle.watching.specs.Runs.{fresh}
 use Rattle.watching.specs.Answer.{IsTaken, IsFinished}
 use Rattle.watching.specs.Whole.{linesOf, Takes, Prints}
-use Rattle.watching.specs.declared.Chunked.{Chunked}
+use Rattle.watching.specs.declared.Chunking.{Chunking}
 use Rattle.watching.specs.declared.Finishing.{Finishing}
-use Rattle.watching.specs.Chunk.{Watches, Ends, IsChunked, FinishAnswers}
+use Rattle.watching.specs.Chunk.{Watches, Ends, ChunkAnswers, FinishAnswers}
 
 -- lines that are each the line of a tick: the ticks
 pub data AreTicks : List (List ℕ) → List Tick → Type 0 where
@@ -71,11 +71,11 @@ abbrev pub PiecesPrint : Type 0
 PiecesPrint =
     (s s₁ s′ input bytes last h : List ℕ) (run : Run) → Watches fresh [] s input run h s₁ bytes → Ends run h s₁ s′ last → Prints s input (bytes ++ last)
 
--- no second answer, state, held bytes and output meet the promise of taking a chunk
+-- no second answer, held bytes, state and output meet the promise of taking a chunk
 abbrev pub OneChunk : Type 0
 OneChunk =
-    (run : Run) (held : ℕ) (chunk p p₁ p₂ s s₁ s₂ d d₁ d₂ : List ℕ) (r₁ r₂ : Chunked) → IsChunked run held chunk p p₁ s s₁ d d₁ r₁
-    → IsChunked run held chunk p p₂ s s₂ d d₂ r₂ → (r₁ ≡ r₂) × (p₁ ≡ p₂) × (s₁ ≡ s₂) × (d₁ ≡ d₂)
+    (run : Run) (held : ℕ) (chunk p p₁ p₂ s s₁ s₂ d d₁ d₂ : List ℕ) (r₁ r₂ : Chunking) → ChunkAnswers run held chunk p p₁ s s₁ d d₁ r₁
+    → ChunkAnswers run held chunk p p₂ s s₂ d d₂ r₂ → (r₁ ≡ r₂) × (p₁ ≡ p₂) × (s₁ ≡ s₂) × (d₁ ≡ d₂)
 
 -- nor that of finishing
 abbrev pub OneEnd : Type 0

@@ -28,12 +28,18 @@ pub struct Taken {
     pub written: usize,
 }
 
-// What taking a chunk of input answers: the run after it, the bytes held of a line that has not ended, the bytes of the chunk taken, and those written.
+// A chunk of input taken: the run after it, the bytes held of a line that has not ended, the bytes of the chunk used, and those written.
 pub struct Chunked {
     pub run: Run,
     pub held: usize,
     pub used: usize,
     pub written: usize,
+}
+
+// What taking a chunk answers.
+pub enum Chunking {
+    Taken(Chunked),
+    Refused(Refusal),
 }
 
 // What finishing answers: the bytes written, or why nothing was done.
