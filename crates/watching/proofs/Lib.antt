@@ -3,3 +3,5 @@ pub mod Takings
 pub mod Whole
 pub mod Unique
 pub mod Rooms
+pub mod Held
+pub mod Pieces

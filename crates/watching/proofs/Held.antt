@@ -1,0 +1,64 @@
+-- A line of which only the first bytes are held is taken as the whole line is: one that is cut is over 1,024 bytes, and each such line is refused
+-- alike. Assumes nothing.
+use Prim.Native.Nat.{ℕ, _<_}
+use mathlib.Core.Path.{_≡_, sym, _∙_}
+use mathlib.Core.List.{List, [], _∷_, _++_}
+use native.Mathlib.Decide.{decLt}
+use native.Mathlib.Omega.{arith}
+use lib.ListN.{length, take}
+use lib.Seq.{length-take-le, take-all, take-append-le}
+use Rattle.rules.specs.Limits.{mostText}
+use Rattle.refusal.specs.declared.Refusal.{Refusal}
+use Rattle.text.specs.Answer.RefusedText.{long, syntax, many, room}
+use Rattle.line.specs.Answer.RefusedLine.{long as long-line, malformed, range}
+use Rattle.watching.specs.declared.Run.{Run}
+use Rattle.watching.specs.Answer.{BeginRefused, StepRefused, LineTaken}
+use Rattle.watching.specs.Answer.BeginRefused.{unread as no-text, unopened}
+use Rattle.watching.specs.Answer.StepRefused.{unread as no-tick, unticked}
+use Rattle.watching.specs.Answer.LineTaken.{begun, unbegun, window, nothing, refused, after}
+use Rattle.watching.specs.Chunk.{mostHeld, hold}
+
+module _ (h l : List ℕ) (over : mostText < length h) (over′ : mostText < length l) where
+  -- as line 1 both are refused for their length
+  long-begin : {s : List ℕ} {r : Refusal} → BeginRefused h s r → BeginRefused l s r
+  long-begin (no-text {body} (long x, e)) = no-text {body = body} (long (record { long = over′ }), e)
+  long-begin (no-text (syntax x, e)) = absurd (omega (arith, x .short))
+  long-begin (no-text (many x, e)) = absurd (omega (arith, x .some .short))
+  long-begin (no-text (room x, e)) = absurd (omega (arith, x .some .short))
+  long-begin (unopened x y) = absurd (omega (arith, x .some .short))
+
+  -- and so they are as a further line
+  long-step : {s : List ℕ} {r : Refusal} → StepRefused h s r → StepRefused l s r
+  long-step (no-tick (long-line x)) = no-tick (long-line over′)
+  long-step (no-tick (malformed x)) = no-tick (long-line over′)
+  long-step (no-tick (range x)) = absurd (omega (arith, x .short))
+  long-step (unticked i) = absurd (omega (arith, i .read .short))
+
+  long-taken : {run run′ : Run} {s s′ bytes : List ℕ} → LineTaken run h s s′ run′ bytes → LineTaken run l s s′ run′ bytes
+  long-taken (begun p i) = absurd (omega (arith, i .read .some .short))
+  long-taken (unbegun p (x, e)) = unbegun p (long-begin x, e)
+  long-taken (window p i w) = absurd (omega (arith, i .read .short))
+  long-taken (nothing p (t, i)) = absurd (omega (arith, i .read .short))
+  long-taken (refused p (x, e)) = refused p (long-step x, e)
+  long-taken (after p e) = after p e
+
+-- the whole line is taken as what is held of it
+pub held-taken : (l : List ℕ) {run run′ : Run} {s s′ bytes : List ℕ} → LineTaken run (take mostHeld l) s s′ run′ bytes
+    → LineTaken run l s s′ run′ bytes
+held-taken l {run} {run′} {s} {s′} {bytes} x = go (decLt (length l) mostHeld)
+  where
+    go : Dec (length l < mostHeld) → LineTaken run l s s′ run′ bytes
+    go (yes h) = rw (take-all mostHeld l (omega arith)) at x
+    go (no h) = long-taken (take mostHeld l) l (omega (arith, length-take-le mostHeld l (omega arith))) (omega arith) x
+
+-- what is held with a byte more is what is held of the line with that byte
+pub hold-held : (l : List ℕ) (c : ℕ) → hold (take mostHeld l) c ≡ take mostHeld (l ++ (c ∷ []))
+hold-held l c = go (decLt (length l) mostHeld)
+  where
+    go : Dec (length l < mostHeld) → hold (take mostHeld l) c ≡ take mostHeld (l ++ (c ∷ []))
+    go (yes h) = rw (take-all mostHeld l (omega arith))
+    go (no h) =
+        let e = length-take-le mostHeld l (omega arith) in
+        take-append-le mostHeld (take mostHeld l) (c ∷ []) (omega arith)
+        ∙ take-all mostHeld (take mostHeld l) (omega arith)
+        ∙ sym (take-append-le mostHeld l (c ∷ []) (omega arith))

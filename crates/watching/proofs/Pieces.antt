@@ -1,0 +1,145 @@
+-- An input taken in chunks prints what its lines print: what is held is always the beginning of the line at hand, cut, so that each line is taken as
+-- the whole line is; and an input that is not empty has taken a line or holds a byte. Assumes nothing.
+use Prim.Native.Nat.{ℕ, _<_}
+use mathlib.Core.Path.{_≡_, refl, ap, _∙_}
+use mathlib.Core.List.{List, [], _∷_, _++_, append-assoc, append-nil}
+use native.Mathlib.Omega.{arith}
+use borrow.Author.Tests.{ne-eqb}
+use lib.ListN.{length, take, length-append, length-take}
+use Rattle.watching.specs.declared.Run.{Run}
+use Rattle.watching.specs.Runs.{fresh}
+use Rattle.watching.specs.Answer.{LineTaken}
+use Rattle.watching.specs.Answer.Windowed.{added, full as over}
+use Rattle.watching.specs.Answer.LineTaken.{begun, unbegun, window, nothing, refused, after}
+use Rattle.watching.specs.Whole.{linesFrom, Takes, Prints}
+use Rattle.watching.specs.Whole.Takes.{more as next-line}
+use Rattle.watching.specs.Chunk.{mostHeld, hold, lastLines, Bites, Watches, Ends}
+use Rattle.watching.specs.Chunk.Bites.{all, full, byte, line}
+use Rattle.watching.specs.Chunk.Watches.{end, more}
+use Rattle.watching.specs.Claim.{PiecesPrint}
+use Rattle.watching.proofs.Held.{held-taken, hold-held}
+
+-- ---- the lines taken
+
+-- from a run at a line's beginning l to one at a line's beginning of which h′ is held: the lines from there on, with those that end on the way, are
+-- the lines from here on
+record Reaches (run : Run) (l s input : List ℕ) (run′ : Run) (h′ s′ input′ bytes : List ℕ) : Type 0 where
+  begins : List ℕ
+  held : h′ ≡ take mostHeld begins
+  goes : {last : Run} {s″ rest : List ℕ} (later : List ℕ) → Takes run′ s′ (linesFrom begins (input′ ++ later)) last s″ rest
+      → Takes run s (linesFrom l (input ++ later)) last s″ (bytes ++ rest)
+
+-- a byte that ends no line
+lines-byte : (l input : List ℕ) (c : ℕ) → (c ≡ 10 → ⊥) → linesFrom l (c ∷ input) ≡ linesFrom (l ++ (c ∷ [])) input
+unfolding linesFrom
+lines-byte l input c n = rw (ne-eqb c 10 n)
+
+-- a line feed
+lines-feed : (l input : List ℕ) → linesFrom l (10 ∷ input) ≡ l ∷ linesFrom [] input
+unfolding linesFrom
+lines-feed l input = refl
+
+bites-reach : {room : ℕ} {run run′ : Run} {h h′ s s′ chunk bytes left : List ℕ} (l : List ℕ) → h ≡ take mostHeld l
+    → Bites room run h s chunk run′ h′ s′ bytes left → Reaches run l s chunk run′ h′ s′ left bytes
+bites-reach l e all = record { begins = l; held = e; goes = λ later k. k }
+bites-reach l e (full p) = record { begins = l; held = e; goes = λ later k. k }
+bites-reach l e (byte {c = c} {input = input} p n k) =
+    let r = bites-reach (l ++ (c ∷ [])) (ap (λ (x : List ℕ). hold x c) e ∙ hold-held l c) k in
+    record { begins = r .begins; held = r .held; goes = λ later t. rw (lines-byte l (input ++ later) c n) (r .goes later t) }
+bites-reach l e (line {input = input} p x k) =
+    let r = bites-reach [] refl k in
+    record {
+      begins = r .begins;
+      held = r .held;
+      goes = λ later t. rw (lines-feed l (input ++ later), append-assoc) (next-line (held-taken l (rw e at x)) (r .goes later t));
+    }
+
+watches-reach : {run run′ : Run} {h h′ s s′ input bytes : List ℕ} (l : List ℕ) → h ≡ take mostHeld l → Watches run h s input run′ h′ s′ bytes
+    → Reaches run l s input run′ h′ s′ [] bytes
+watches-reach l e end = record { begins = l; held = e; goes = λ later k. k }
+watches-reach l e (more {chunk = chunk} {bytes = bytes} {left = left} later b w) =
+    let r = bites-reach l e b in
+    let q = watches-reach (r .begins) (r .held) w in
+    record {
+      begins = q .begins;
+      held = q .held;
+      goes = λ last t.
+          let k = rw (append-assoc left later last) at (q .goes last t) in
+          rw (append-assoc chunk later last, append-assoc bytes) (r .goes (later ++ last) k);
+    }
+
+-- ---- an input that is not empty
+
+-- a line that is taken leaves no fresh run
+taken-begins : {run run′ : Run} {l s s′ bytes : List ℕ} → LineTaken run l s s′ run′ bytes → 0 < run′ .phase
+taken-begins (begun p i) = omega arith
+taken-begins (unbegun p i) = omega arith
+taken-begins (window p i (added e)) = omega arith
+taken-begins (window p i (over e)) = omega arith
+taken-begins (nothing p i) = omega arith
+taken-begins (refused p i) = omega arith
+taken-begins (after p e) = omega arith
+
+-- before line 1, with nothing held
+record Unmoved (run : Run) (h : List ℕ) : Type 0 where
+  first : run .phase ≡ 0
+  empty : h ≡ []
+
+-- a byte is always held
+hold-some : (h : List ℕ) (c : ℕ) → hold h c ≡ [] → ⊥
+hold-some h c e = omega (arith, length-take mostHeld (h ++ (c ∷ [])), length-append h (c ∷ []), ap length e)
+
+bites-unmoved : {room : ℕ} {run run′ : Run} {h h′ s s′ chunk bytes left : List ℕ} → Bites room run h s chunk run′ h′ s′ bytes left → Unmoved run′ h′
+    → Unmoved run h × (left ≡ chunk)
+bites-unmoved all u = (u, refl)
+bites-unmoved (full p) u = (u, refl)
+bites-unmoved (byte {c = c} {h = h} p n k) u = absurd (hold-some h c (bites-unmoved k u .0 .empty))
+bites-unmoved (line p x k) u = absurd (omega (arith, taken-begins x, bites-unmoved k u .0 .first))
+
+watches-unmoved : {run run′ : Run} {h h′ s s′ input bytes : List ℕ} → Watches run h s input run′ h′ s′ bytes → Unmoved run′ h′
+    → Unmoved run h × (input ≡ [])
+watches-unmoved end u = (u, refl)
+watches-unmoved (more later b w) u =
+    let v = watches-unmoved w u in
+    let z = bites-unmoved b (v .0) in
+    (z .0, rw (← z .1) (v .1))
+
+-- ---- an input that is empty
+
+-- nothing has changed, and nothing is written
+data Still (run : Run) (h s : List ℕ) : Run → List ℕ → List ℕ → List ℕ → Type 0 where
+  still : Still run h s run h s []
+
+watches-still : {run run′ : Run} {h h′ s s′ input bytes : List ℕ} → Watches run h s input run′ h′ s′ bytes → length input ≡ 0
+    → Still run h s run′ h′ s′ bytes
+watches-still end e = still
+watches-still (more later all w) e = watches-still w e
+watches-still (more later (full p) w) e = absurd (omega arith)
+watches-still (more later (byte p n k) w) e = absurd (omega arith)
+watches-still (more later (line p x k) w) e = absurd (omega arith)
+
+-- ---- the end of input
+
+-- what the end of input ends is the last line, except for an empty input
+last-taken : {run last : Run} {s s′ bytes : List ℕ} (l : List ℕ) → (Unmoved run (take mostHeld l) → ⊥)
+    → Takes run s (lastLines run (take mostHeld l)) last s′ bytes → Takes run s (linesFrom l []) last s′ bytes
+unfolding linesFrom
+last-taken {run} [] n k = rw (ne-eqb (run .phase) 0 (λ e. n (record { first = e; empty = refl }))) at k
+last-taken (c ∷ l) n (next-line x k) = next-line (held-taken (c ∷ l) x) k
+
+pub pieces-print : PiecesPrint
+pieces-print s s₁ s′ [] bytes last h run w x = go (watches-still w refl) x
+  where
+    go : {run : Run} {h s₁ bytes : List ℕ} → Still fresh [] s run h s₁ bytes → Ends run h s₁ s′ last → Prints s [] (bytes ++ last)
+    go still x = record { run = x .last; state = s′; bytes = x .bytes; takes = x .takes; whole = x .whole }
+pieces-print s s₁ s′ (c ∷ input) bytes last h run w x =
+    let r = watches-reach [] refl w in
+    let moved : Unmoved run h → ⊥ = λ u. omega (arith, ap length (watches-unmoved w u .1)) in
+    let k = last-taken (r .begins) (rw (r .held) at moved) (rw (r .held) at (x .takes)) in
+    record {
+      run = x .last;
+      state = s′;
+      bytes = bytes ++ x .bytes;
+      takes = rw (append-nil (c ∷ input)) at (r .goes [] k);
+      whole = rw (x .whole, append-assoc bytes);
+    }
