@@ -5,3 +5,4 @@ pub mod Unique
 pub mod Rooms
 pub mod Held
 pub mod Pieces
+pub mod UniqueChunk

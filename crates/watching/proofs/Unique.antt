@@ -172,7 +172,7 @@ one-kind run l s s₁ s₂ late (further b) (p, x) (q, y) = absurd (omega arith)
 one-kind run l s s₁ s₂ late late (p, x) (q, y) = (refl, x ∙ sym y)
 
 -- the bytes, and what is there before, fix what is written
-one-written : (bytes d d₁ d₂ : List ℕ) (n₁ n₂ : ℕ) → IsWritten bytes d d₁ n₁ → IsWritten bytes d d₂ n₂ → (n₁ ≡ n₂) × (d₁ ≡ d₂)
+pub one-written : (bytes d d₁ d₂ : List ℕ) (n₁ n₂ : ℕ) → IsWritten bytes d d₁ n₁ → IsWritten bytes d d₂ n₂ → (n₁ ≡ n₂) × (d₁ ≡ d₂)
 one-written bytes d d₁ d₂ n₁ n₂ x y =
     let e : n₁ ≡ n₂ = x .counts ∙ sym (y .counts) in
     (e, x .written ∙ ap (λ (n : ℕ). bytes ++ drop n d) e ∙ sym (y .written))
@@ -180,15 +180,21 @@ one-written bytes d d₁ d₂ n₁ n₂ x y =
 same : {a b : Run} {m n : ℕ} → a ≡ b → m ≡ n → _≡_ {A = Taken} (record { run = a; written = m }) (record { run = b; written = n })
 same p q = rw (p, q)
 
+-- the run, the state and the bytes after a line
+pub one-line : (run run₁ run₂ : Run) (l s s₁ s₂ b₁ b₂ : List ℕ) → LineTaken run l s s₁ run₁ b₁ → LineTaken run l s s₂ run₂ b₂
+    → (run₁ ≡ run₂) × (s₁ ≡ s₂) × (b₁ ≡ b₂)
+one-line run run₁ run₂ l s s₁ s₂ b₁ b₂ x y =
+    let i = by-kind x in
+    let j = by-kind y in
+    let u = one-kind run l s s₁ s₂ (i .kind) (j .kind) (i .is) (j .is) in
+    let e : _≡_ {A = Said} (run₁, b₁) (run₂, b₂) = i .said ∙ ap (saidOf run) (u .0) ∙ sym (j .said) in
+    (ap (λ (z : Said). z .0) e, u .1, ap (λ (z : Said). z .1) e)
+
 pub one-taking : OneTaking
 one-taking run l s s₁ s₂ d d₁ d₂ r₁ r₂ x y =
-    let i = by-kind (x .line) in
-    let j = by-kind (y .line) in
-    let u = one-kind run l s s₁ s₂ (i .kind) (j .kind) (i .is) (j .is) in
-    let e : _≡_ {A = Said} (r₁ .run, x .bytes) (r₂ .run, y .bytes) = i .said ∙ ap (saidOf run) (u .0) ∙ sym (j .said) in
-    let b : x .bytes ≡ y .bytes = ap (λ (z : Said). z .1) e in
-    let w = one-written (y .bytes) d d₁ d₂ (r₁ .written) (r₂ .written) (rw b at (x .written)) (y .written) in
-    (same (ap (λ (z : Said). z .0) e) (w .0), u .1, w .1)
+    let u = one-line run (r₁ .run) (r₂ .run) l s s₁ s₂ (x .bytes) (y .bytes) (x .line) (y .line) in
+    let w = one-written (y .bytes) d d₁ d₂ (r₁ .written) (r₂ .written) (rw (u .2) at (x .written)) (y .written) in
+    (same (u .0) (w .0), u .1, w .1)
 
 pub one-finish : OneFinish
 one-finish run d d₁ d₂ n₁ n₂ x y = one-written _ d d₁ d₂ n₁ n₂ x y
