@@ -3,3 +3,8 @@ pub mod Takings
 pub mod Whole
 pub mod Unique
 pub mod Rooms
+pub mod Biting
+pub mod Forms
+pub mod Appending
+pub mod Goings
+pub mod Chunkings

@@ -34,7 +34,7 @@ use Rattle.watching.specs.Answer.BeginRefused.{unread as no-text, unopen
 use Rattle.watching.specs.Answer.StepRefused.{unread as no-tick, unticked}
 use Rattle.watching.specs.Answer.Windowed.{added, full}
 use Rattle.watching.specs.Answer.LineTaken.{begun, unbegun, window, nothing, refused, after}
-use Rattle.watching.specs.Claim.{OneTaking, OneFinish}
+use Rattle.watching.specs.Claim.{OneTaking}
 
 -- ---- line 1
 
@@ -189,6 +189,3 @@ one-taking run l s s₁ s₂ d d₁ d₂ r₁ r₂ x y =
     let b : x .bytes ≡ y .bytes = ap (λ (z : Said). z .1) e in
     let w = one-written (y .bytes) d d₁ d₂ (r₁ .written) (r₂ .written) (rw b at (x .written)) (y .written) in
     (same (ap (λ (z : Said). z .0) e) (w .0), u .1, w .1)
-
-pub one-finish : OneFinish
-one-finish run d d₁ d₂ n₁ n₂ x y = one-written _ d d₁ d₂ n₁ n₂ x y

@@ -15,7 +15,7 @@ use Rattle.line.specs.Answer.{IsTick}
 use Rattle.watching.specs.declared.Run.{Run}
 use Rattle.watching.specs.declared.Taken.{Taken}
 use Rattle.watching.specs.Runs.{fresh}
-use Rattle.watching.specs.Answer.{IsTaken, IsFinished}
+use Rattle.watching.specs.Answer.{IsTaken}
 use Rattle.watching.specs.Whole.{linesOf, Takes, Prints}
 use Rattle.watching.specs.declared.Chunking.{Chunking}
 use Rattle.watching.specs.declared.Finishing.{Finishing}
@@ -88,10 +88,6 @@ abbrev pub OneTaking : Type 0
 OneTaking =
     (run : Run) (l s s₁ s₂ d d₁ d₂ : List ℕ) (r₁ r₂ : Taken) → IsTaken run l s s₁ d d₁ r₁ → IsTaken run l s s₂ d d₂ r₂
     → (r₁ ≡ r₂) × (s₁ ≡ s₂) × (d₁ ≡ d₂)
-
--- nor that of finishing
-abbrev pub OneFinish : Type 0
-OneFinish = (run : Run) (d d₁ d₂ : List ℕ) (n₁ n₂ : ℕ) → IsFinished run d d₁ n₁ → IsFinished run d d₂ n₂ → (n₁ ≡ n₂) × (d₁ ≡ d₂)
 
 -- the words that the program lends are enough for the state of any pattern
 abbrev pub RoomEnough : Type 0
