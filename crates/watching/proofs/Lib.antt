@@ -3,6 +3,12 @@ pub mod Takings
 pub mod Whole
 pub mod Unique
 pub mod Rooms
+pub mod Biting
+pub mod Forms
+pub mod Appending
+pub mod Goings
+pub mod Chunkings
 pub mod Held
-pub mod Pieces
+pub mod InPieces
+pub mod Given
 pub mod UniqueChunk

@@ -31,7 +31,7 @@ use Rattle.tally.specs.Tallied.{addedTo}
 use Rattle.line.specs.declared.LineWritten.{LineWritten}
 use Rattle.line.specs.Lines.{mostWritten, windowLine, tallyLine, refusedLine}
 use Rattle.line.specs.declared.LineRead.the-variants as Lines
-use Rattle.line.specs.Answer.{LineReadOf, LineWrittenOf}
+use Rattle.line.specs.Answer.{LineReadOf, LineWrittenOf, IsWritten}
 use Rattle.text.specs.declared.Reading.the-variants as Reads
 use Rattle.text.specs.Answer.{ReadingOf}
 use Rattle.watcher.specs.declared.Opening.the-variants as Opens
@@ -43,7 +43,7 @@ use Rattle.watching.specs.declared.Beginning.{Beginning}
 use Rattle.watching.specs.declared.Beginning.the-variants as Begins
 use Rattle.watching.specs.declared.Stepping.{Stepping}
 use Rattle.watching.specs.declared.Stepping.the-variants as Steps
-use Rattle.watching.specs.Runs.{nextLine, tallyOf, wentOn}
+use Rattle.watching.specs.Runs.{nextLine, tallyOf, wentOn, finishLine}
 use Rattle.watching.specs.Answer.{
   noBody,
   IsBegun,
@@ -54,7 +54,6 @@ use Rattle.watching.specs.Answer.{
   Windowed,
   LineTaken,
   IsTaken,
-  IsFinished,
   IsWindowed,
   IsRefused,
   refusing,
@@ -104,7 +103,7 @@ opened-by l body part s s′ bytes p a b = record { body = body; bytes = bytes; 
 
 module _ (run : Run) (d d′ : List ℕ) (q : mostWritten ≤ length d) where
   pub is-finished : (b : ℕ) (w : LineWritten) → run .phase ≡ 1 → run .windows < 2 ^ 64 → run .ticks < 2 ^ 64
-      → LineWrittenOf (tallyLine (run .windows) (run .ticks)) d d′ w → b ≡ bytesIn w → IsFinished run d d′ b
+      → LineWrittenOf (tallyLine (run .windows) (run .ticks)) d d′ w → b ≡ bytesIn w → IsWritten (finishLine run) d d′ b
   is-finished b w p fw ft h eb = simp (eq-eqb (run .phase) 1 p, eb) (tally-written d d′ w q (run .windows) (run .ticks) fw ft h)
 
   pub is-refused : (r : Refusal) (n k b : ℕ) (w : LineWritten)
@@ -134,7 +133,7 @@ module _ (run : Run) (d d′ : List ℕ) (q : mostWritten ≤ length d) where
     written = i .written;
   }
 
-pub is-unfinished : (run : Run) (d : List ℕ) → (run .phase ≡ 1 → ⊥) → IsFinished run d d 0
+pub is-unfinished : (run : Run) (d : List ℕ) → (run .phase ≡ 1 → ⊥) → IsWritten (finishLine run) d d 0
 is-unfinished run d p = simp (ne-eqb (run .phase) 1 p) (nothing-written d)
 
 module _ (run : Run) (l s s′ d : List ℕ) where

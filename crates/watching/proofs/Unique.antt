@@ -23,7 +23,6 @@ use Rattle.line.specs.Lines.{windowLine}
 use Rattle.line.specs.Answer.{LineReadOf, IsWritten}
 use Rattle.line.proofs.Claims as Lined
 use Rattle.watching.specs.declared.Run.{Run}
-use Rattle.watching.specs.declared.Taken.{Taken}
 use Rattle.watching.specs.declared.Beginning.{Beginning}
 use Rattle.watching.specs.declared.Beginning.the-variants as Begins
 use Rattle.watching.specs.declared.Stepping.{Stepping}
@@ -34,7 +33,6 @@ use Rattle.watching.specs.Answer.BeginRefused.{unread as no-text, unopen
 use Rattle.watching.specs.Answer.StepRefused.{unread as no-tick, unticked}
 use Rattle.watching.specs.Answer.Windowed.{added, full}
 use Rattle.watching.specs.Answer.LineTaken.{begun, unbegun, window, nothing, refused, after}
-use Rattle.watching.specs.Claim.{OneTaking, OneFinish}
 
 -- ---- line 1
 
@@ -177,9 +175,6 @@ one-written bytes d d₁ d₂ n₁ n₂ x y =
     let e : n₁ ≡ n₂ = x .counts ∙ sym (y .counts) in
     (e, x .written ∙ ap (λ (n : ℕ). bytes ++ drop n d) e ∙ sym (y .written))
 
-same : {a b : Run} {m n : ℕ} → a ≡ b → m ≡ n → _≡_ {A = Taken} (record { run = a; written = m }) (record { run = b; written = n })
-same p q = rw (p, q)
-
 -- the run, the state and the bytes after a line
 pub one-line : (run run₁ run₂ : Run) (l s s₁ s₂ b₁ b₂ : List ℕ) → LineTaken run l s s₁ run₁ b₁ → LineTaken run l s s₂ run₂ b₂
     → (run₁ ≡ run₂) × (s₁ ≡ s₂) × (b₁ ≡ b₂)
@@ -189,12 +184,3 @@ one-line run run₁ run₂ l s s₁ s₂ b₁ b₂ x y =
     let u = one-kind run l s s₁ s₂ (i .kind) (j .kind) (i .is) (j .is) in
     let e : _≡_ {A = Said} (run₁, b₁) (run₂, b₂) = i .said ∙ ap (saidOf run) (u .0) ∙ sym (j .said) in
     (ap (λ (z : Said). z .0) e, u .1, ap (λ (z : Said). z .1) e)
-
-pub one-taking : OneTaking
-one-taking run l s s₁ s₂ d d₁ d₂ r₁ r₂ x y =
-    let u = one-line run (r₁ .run) (r₂ .run) l s s₁ s₂ (x .bytes) (y .bytes) (x .line) (y .line) in
-    let w = one-written (y .bytes) d d₁ d₂ (r₁ .written) (r₂ .written) (rw (u .2) at (x .written)) (y .written) in
-    (same (u .0) (w .0), u .1, w .1)
-
-pub one-finish : OneFinish
-one-finish run d d₁ d₂ n₁ n₂ x y = one-written _ d d₁ d₂ n₁ n₂ x y

@@ -26,7 +26,7 @@ use Rattle.watching.specs.declared.Beginning.{Beginning}
 use Rattle.watching.specs.declared.Beginning.the-variants as Begins
 use Rattle.watching.specs.declared.Stepping.{Stepping}
 use Rattle.watching.specs.declared.Stepping.the-variants as Steps
-use Rattle.watching.specs.Runs.{nextLine, tallyOf, wentOn, ended, finishLine}
+use Rattle.watching.specs.Runs.{nextLine, tallyOf, wentOn, ended}
 
 -- room for the longest body
 abbrev pub noBody : List ℕ
@@ -91,10 +91,6 @@ pub record IsTaken (run : Run) (l s s′ d d′ : List ℕ) (taken : Taken) : Ty
   pub bytes : List ℕ
   pub line : LineTaken run l s s′ (taken .run) bytes
   pub written : IsWritten bytes d d′ (taken .written)
-
--- the promise of finishing
-abbrev pub IsFinished : Run → List ℕ → List ℕ → ℕ → Type 0
-IsFinished run d d′ n = IsWritten (finishLine run) d d′ n
 
 -- inner devices: a window taken, a refusal written, and the bytes that writing tells
 pub record IsWindowed (run : Run) (start t : ℕ) (d d′ : List ℕ) (taken : Taken) : Type 0 where

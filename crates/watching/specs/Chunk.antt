@@ -6,7 +6,6 @@ use mathlib.Core.Bool.{cond}
 use mathlib.Core.List.{List, [], _∷_, _++_}
 use lib.Dec.{eqb}
 use lib.ListN.{length, take, drop}
-use Rattle.refusal.specs.declared.Refusal.{Refusal}
 use Rattle.refusal.specs.declared.Refusal.the-variants.{Room}
 use Rattle.line.specs.Lines.{mostWritten}
 use Rattle.line.specs.Answer.{IsWritten}
@@ -18,7 +17,7 @@ use Rattle.watching.specs.declared.Finishing.{Finishing}
 use Rattle.watching.specs.declared.Finishing.the-variants as Ending
 use Rattle.watching.specs.Runs.{finishLine}
 use Rattle.watching.specs.Answer.{LineTaken}
-use Rattle.watching.specs.Whole.{lastLine, Takes}
+use Rattle.watching.specs.Whole.{Takes}
 
 -- so many bytes of a line tell that it is too long
 abbrev pub mostHeld : ℕ
@@ -80,8 +79,11 @@ FinishAnswers run held p s s′ d d′ (Ending.Finished n) =
     (mostFinish ≤ length d) × ((output : List ℕ) × Ends run (heldIn held p) s s′ output × IsWritten output d d′ n)
 FinishAnswers run held p s s′ d d′ (Ending.Refused r) = (length d < mostFinish) × (r ≡ Room mostFinish) × (s′ ≡ s) × (d′ ≡ d)
 
--- an input taken in chunks of any size, with any room each time: what a chunk leaves comes first in the next
-pub data Watches : Run → List ℕ → List ℕ → List ℕ → Run → List ℕ → List ℕ → List ℕ → Type 0 where
-  end : {run : Run} {h s : List ℕ} → Watches run h s [] run h s []
-  more : {room : ℕ} {run run₁ run′ : Run} {h h₁ h′ s s₁ s′ chunk bytes rest left : List ℕ} (later : List ℕ)
-      → Bites room run h s chunk run₁ h₁ s₁ bytes left → Watches run₁ h₁ s₁ (left ++ later) run′ h′ s′ rest → Watches run h s (chunk ++ later) run′ h′ s′ (bytes ++ rest)
+-- an input given in chunks of any size, with any room for output each time: a call is lent what the one before it left, and the bytes that one did
+-- not use come first in its chunk
+pub data Given : Run → ℕ → List ℕ → List ℕ → List ℕ → Run → ℕ → List ℕ → List ℕ → List ℕ → Type 0 where
+  none : {run : Run} {held : ℕ} {p s : List ℕ} → Given run held p s [] run held p s []
+  more : {run run′ : Run} {held held′ : ℕ} {p p₁ p′ s s₁ s′ d d′ chunk rest : List ℕ} {r : Chunked} (later : List ℕ)
+      → ChunkAnswers run held chunk p p₁ s s₁ d d′ (Chunks.Taken r)
+      → Given (r .run) (r .held) p₁ s₁ (drop (r .used) chunk ++ later) run′ held′ p′ s′ rest
+      → Given run held p s (chunk ++ later) run′ held′ p′ s′ (take (r .written) d′ ++ rest)

@@ -2,7 +2,7 @@
 use Prim.Native.Nat.{ℕ, suc, zero, _≤_}
 use mathlib.Core.Path.{_≡_}
 use mathlib.Core.List.{List, [], _∷_, _++_}
-use lib.ListN.{length}
+use lib.ListN.{length, take}
 use Rattle.rules.specs.Limits.{mostEntries}
 use Rattle.rules.specs.Pattern.{Pattern, size}
 use Rattle.rules.specs.Instances.{Has, Latest}
@@ -13,13 +13,12 @@ use Rattle.tally.specs.Claim.{Window, span}
 use Rattle.line.specs.Lines.{windowLine, tallyLine}
 use Rattle.line.specs.Answer.{IsTick}
 use Rattle.watching.specs.declared.Run.{Run}
-use Rattle.watching.specs.declared.Taken.{Taken}
-use Rattle.watching.specs.Runs.{fresh}
-use Rattle.watching.specs.Answer.{IsTaken, IsFinished}
-use Rattle.watching.specs.Whole.{linesOf, Takes, Prints}
 use Rattle.watching.specs.declared.Chunking.{Chunking}
 use Rattle.watching.specs.declared.Finishing.{Finishing}
-use Rattle.watching.specs.Chunk.{Watches, Ends, ChunkAnswers, FinishAnswers}
+use Rattle.watching.specs.declared.Finishing.the-variants.{Finished}
+use Rattle.watching.specs.Runs.{fresh}
+use Rattle.watching.specs.Whole.{linesOf, Takes, Prints}
+use Rattle.watching.specs.Chunk.{ChunkAnswers, FinishAnswers, Given}
 
 -- lines that are each the line of a tick: the ticks
 pub data AreTicks : List (List ℕ) → List Tick → Type 0 where
@@ -66,10 +65,11 @@ OutputAgrees =
     (s input output p : List ℕ) (ls : List (List ℕ)) (x : Prints s input output) → linesOf input ≡ p ∷ ls → x .run .phase ≡ 1
     → (a : Agreed p ls (x .bytes) (x .run)) × (output ≡ windowLines (a .windows) ++ tallyLine (length (a .windows)) (span (a .windows)))
 
--- however an input is cut into chunks, and whatever room each finds, what is written for it is what is written for its lines
-abbrev pub PiecesPrint : Type 0
-PiecesPrint =
-    (s s₁ s′ input bytes last h : List ℕ) (run : Run) → Watches fresh [] s input run h s₁ bytes → Ends run h s₁ s′ last → Prints s input (bytes ++ last)
+-- however an input is cut into chunks, and whatever room each finds, what is written for it and at its end is what its lines print
+abbrev pub InputPrints : Type 0
+InputPrints =
+    (s s₁ s′ p p′ d d′ input bytes : List ℕ) (run : Run) (held n : ℕ) → Given fresh 0 p s input run held p′ s₁ bytes
+    → FinishAnswers run held p′ s₁ s′ d d′ (Finished n) → Prints s input (bytes ++ take n d′)
 
 -- no second answer, held bytes, state and output meet the promise of taking a chunk
 abbrev pub OneChunk : Type 0
@@ -82,16 +82,6 @@ abbrev pub OneEnd : Type 0
 OneEnd =
     (run : Run) (held : ℕ) (p s s₁ s₂ d d₁ d₂ : List ℕ) (r₁ r₂ : Finishing) → FinishAnswers run held p s s₁ d d₁ r₁
     → FinishAnswers run held p s s₂ d d₂ r₂ → (r₁ ≡ r₂) × (s₁ ≡ s₂) × (d₁ ≡ d₂)
-
--- no second answer, state and output meet the promise of taking a line
-abbrev pub OneTaking : Type 0
-OneTaking =
-    (run : Run) (l s s₁ s₂ d d₁ d₂ : List ℕ) (r₁ r₂ : Taken) → IsTaken run l s s₁ d d₁ r₁ → IsTaken run l s s₂ d d₂ r₂
-    → (r₁ ≡ r₂) × (s₁ ≡ s₂) × (d₁ ≡ d₂)
-
--- nor that of finishing
-abbrev pub OneFinish : Type 0
-OneFinish = (run : Run) (d d₁ d₂ : List ℕ) (n₁ n₂ : ℕ) → IsFinished run d d₁ n₁ → IsFinished run d d₂ n₂ → (n₁ ≡ n₂) × (d₁ ≡ d₂)
 
 -- the words that the program lends are enough for the state of any pattern
 abbrev pub RoomEnough : Type 0

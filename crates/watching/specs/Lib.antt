@@ -2,4 +2,5 @@ pub mod Runs
 pub mod Answer
 pub mod Whole
 pub mod Chunk
+pub mod Going
 pub mod Claim

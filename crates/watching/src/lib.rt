@@ -1,4 +1,6 @@
 // A run of the watch program: what each line of its input does, and what is written for it.
+mod pieces;
+
 use line::LineRead;
 use line::LineWritten;
 use refusal::Refusal;
@@ -8,11 +10,25 @@ use text::Reading;
 use watcher::Opening;
 use watcher::Ticking;
 ghost use mathlib.Core.Path.{_≡_};
+ghost use mathlib.Core.Bool.{true};
 ghost use Prim.Native.Nat.{_≤_};
 ghost use lib.ListN.{length};
 ghost use Rattle.line.specs.Lines.{mostWritten};
-ghost use Rattle.watching.specs.Runs.{fresh, nextLine, tallyOf, wentOn};
-ghost use Rattle.watching.specs.Answer.{BeginAnswers, StepAnswers, IsTaken, IsRefused, IsFinished, IsWindowed, bytesIn};
+ghost use Rattle.line.specs.Answer.{IsWritten};
+ghost use Rattle.watcher.specs.State.{InForm};
+ghost use Rattle.watcher.specs.Answer.{TickAnswers};
+ghost use Rattle.watching.specs.Runs.{fresh, nextLine, tallyOf, wentOn, finishLine};
+ghost use Rattle.watching.specs.Answer.{BeginAnswers, StepAnswers, IsTaken, IsRefused, IsWindowed, bytesIn};
+ghost use Rattle.watching.specs.Chunk.{ChunkAnswers, FinishAnswers};
+
+// The bytes that a line may write.
+pub(crate) const MOST_WRITTEN: usize = 60;
+
+// So many bytes of a line tell that it is too long.
+pub(crate) const MOST_HELD: usize = 1025;
+
+// The bytes that finishing may write: two lines.
+const MOST_FINISH: usize = 120;
 
 // How far a run is: phase 0 before line 1, 1 running, 2 ended by a refusal; the lines taken; and the tally.
 pub struct Run {
@@ -73,16 +89,54 @@ pub fn start() -> Run
     }
 }
 
+// Takes a chunk of input: every line that ends in it, after the bytes held of the line before. What is left of the last line is held.
+pub fn take_chunk(
+    run: Run,
+    held: usize,
+    chunk: &[u8],
+    part: &mut [u8],
+    state: &mut [u64],
+    out: &mut [u8],
+) -> Chunking
+    ensures { λ r. ⌜ ChunkAnswers run held (now (chunk .entry)) (now (part .entry)) (now (part .exit)) (now (state .entry)) (now (state .exit))
+        (now (out .entry)) (now (out .exit)) r ⌝ }
+{
+    if part.len() < MOST_HELD {
+        return Chunking::Refused(Refusal::Room(MOST_HELD));
+    }
+    Chunking::Taken(pieces::take(run, held, chunk, part, state, out))
+}
+
+// Ends the input: takes the last line, if no line feed ended it, and writes the tally of a run that no refusal ended.
+pub fn finish(run: Run, held: usize, part: &[u8], state: &mut [u64], out: &mut [u8]) -> Finishing
+    ensures { λ r. ⌜ FinishAnswers run held (now (part .entry)) (now (state .entry)) (now (state .exit)) (now (out .entry)) (now (out .exit)) r ⌝ }
+{
+    if out.len() < MOST_FINISH {
+        return Finishing::Refused(Refusal::Room(MOST_FINISH));
+    }
+    let last = pieces::take_last(run, held, part, state, &mut out[0..MOST_WRITTEN]);
+    let from = last.written;
+    let later = last.run;
+    Finishing::Finished(from + finish_line(later, &mut out[from..]))
+}
+
 // Takes the next line: line 1 opens the state, a further one is a tick. What is to be said is written to `out`; after a refusal that is nothing.
-pub fn take_line(run: Run, line: &[u8], state: &mut [u64], out: &mut [u8]) -> Taken
-    requires { ⌜ mostWritten ≤ length (now out) ⌝ }
+// A state that is known to be in form is not judged.
+pub(crate) fn take_line(
+    run: Run,
+    line: &[u8],
+    known: bool,
+    state: &mut [u64],
+    out: &mut [u8],
+) -> Taken
+    requires { ⌜ (known ≡ true → run .phase ≡ 1 → InForm (now state)) × (mostWritten ≤ length (now out)) ⌝ }
     ensures { λ r. ⌜ IsTaken run (now (line .entry)) (now (state .entry)) (now (state .exit)) (now (out .entry)) (now (out .exit)) r ⌝ }
 {
     if run.phase == 0 {
         return take_first(run, line, state, out);
     }
     if run.phase == 1 {
-        return take_tick(run, line, state, out);
+        return take_tick(run, line, known, state, out);
     }
     Taken {
         run: run,
@@ -91,9 +145,9 @@ pub fn take_line(run: Run, line: &[u8], state: &mut [u64], out: &mut [u8]) -> Ta
 }
 
 // Writes the tally of a run that no refusal ended.
-pub fn finish(run: Run, out: &mut [u8]) -> usize
+fn finish_line(run: Run, out: &mut [u8]) -> usize
     requires { ⌜ mostWritten ≤ length (now out) ⌝ }
-    ensures { λ r. ⌜ IsFinished run (now (out .entry)) (now (out .exit)) r ⌝ }
+    ensures { λ r. ⌜ IsWritten (finishLine run) (now (out .entry)) (now (out .exit)) r ⌝ }
 {
     if run.phase != 1 {
         return 0;
@@ -114,11 +168,11 @@ fn take_first(run: Run, line: &[u8], state: &mut [u64], out: &mut [u8]) -> Taken
     }
 }
 
-fn take_tick(run: Run, line: &[u8], state: &mut [u64], out: &mut [u8]) -> Taken
-    requires { ⌜ (run .phase ≡ 1) × (mostWritten ≤ length (now out)) ⌝ }
+fn take_tick(run: Run, line: &[u8], known: bool, state: &mut [u64], out: &mut [u8]) -> Taken
+    requires { ⌜ (run .phase ≡ 1) × (known ≡ true → InForm (now state)) × (mostWritten ≤ length (now out)) ⌝ }
     ensures { λ r. ⌜ IsTaken run (now (line .entry)) (now (state .entry)) (now (state .exit)) (now (out .entry)) (now (out .exit)) r ⌝ }
 {
-    match step(line, state) {
+    match step(line, known, state) {
         Stepping::Window(start, end) => take_window(run, start, end, out),
         Stepping::Nothing => Taken {
             run: going(run),
@@ -144,17 +198,29 @@ fn begin(text: &[u8], state: &mut [u64]) -> Beginning
 }
 
 // Reads a line as a tick, and moves the state by it.
-fn step(line: &[u8], state: &mut [u64]) -> Stepping
+fn step(line: &[u8], known: bool, state: &mut [u64]) -> Stepping
+    requires { ⌜ (known ≡ true → InForm (now state)) ⌝ }
     ensures { λ r. ⌜ StepAnswers (now (line .entry)) (now (state .entry)) (now (state .exit)) r ⌝ }
 {
     match line::read_tick(line) {
         LineRead::Refused(r) => Stepping::Refused(r),
-        LineRead::Tick(t, events) => match watcher::tick(state, t, events) {
+        LineRead::Tick(t, events) => match tick_by(known, state, t, events) {
             Ticking::Window(start) => Stepping::Window(start, t),
             Ticking::Nothing => Stepping::Nothing,
             Ticking::Refused(r) => Stepping::Refused(r),
         },
     }
+}
+
+// A tick, with the state judged unless it is known to be in form.
+fn tick_by(known: bool, state: &mut [u64], t: u64, events: u32) -> Ticking
+    requires { ⌜ (known ≡ true → InForm (now state)) ⌝ }
+    ensures { λ r. ⌜ TickAnswers (now (state .entry)) (now (state .exit)) t events r ⌝ }
+{
+    if known {
+        return watcher::tick_in_form(state, t, events);
+    }
+    watcher::tick(state, t, events)
 }
 
 // Adds a window to the tally and writes it.

@@ -13,11 +13,16 @@ use Rattle.watching.specs.Answer.Windowed.{added, full as over}
 use Rattle.watching.specs.Answer.LineTaken.{begun, unbegun, window, nothing, refused, after}
 use Rattle.watching.specs.Whole.{linesFrom, Takes, Prints}
 use Rattle.watching.specs.Whole.Takes.{more as next-line}
-use Rattle.watching.specs.Chunk.{mostHeld, hold, lastLines, Bites, Watches, Ends}
+use Rattle.watching.specs.Chunk.{mostHeld, hold, lastLines, Bites, Ends}
 use Rattle.watching.specs.Chunk.Bites.{all, full, byte, line}
-use Rattle.watching.specs.Chunk.Watches.{end, more}
-use Rattle.watching.specs.Claim.{PiecesPrint}
 use Rattle.watching.proofs.Held.{held-taken, hold-held}
+
+-- bytes taken in pieces, where what a piece leaves comes first in the next
+pub data Watches : Run → List ℕ → List ℕ → List ℕ → Run → List ℕ → List ℕ → List ℕ → Type 0 where
+  end : {run : Run} {h s : List ℕ} → Watches run h s [] run h s []
+  more : {room : ℕ} {run run₁ run′ : Run} {h h₁ h′ s s₁ s′ chunk bytes rest left : List ℕ} (later : List ℕ)
+      → Bites room run h s chunk run₁ h₁ s₁ bytes left → Watches run₁ h₁ s₁ (left ++ later) run′ h′ s′ rest
+      → Watches run h s (chunk ++ later) run′ h′ s′ (bytes ++ rest)
 
 -- ---- the lines taken
 
@@ -127,7 +132,8 @@ unfolding linesFrom
 last-taken {run} [] n k = rw (ne-eqb (run .phase) 0 (λ e. n (record { first = e; empty = refl }))) at k
 last-taken (c ∷ l) n (next-line x k) = next-line (held-taken (c ∷ l) x) k
 
-pub pieces-print : PiecesPrint
+pub pieces-print : (s s₁ s′ input bytes last h : List ℕ) (run : Run) → Watches fresh [] s input run h s₁ bytes → Ends run h s₁ s′ last
+    → Prints s input (bytes ++ last)
 pieces-print s s₁ s′ [] bytes last h run w x = go (watches-still w refl) x
   where
     go : {run : Run} {h s₁ bytes : List ℕ} → Still fresh [] s run h s₁ bytes → Ends run h s₁ s′ last → Prints s [] (bytes ++ last)

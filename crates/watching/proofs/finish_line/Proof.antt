@@ -1,0 +1,29 @@
+-- `watching::finish_line` meets its contract: the tally is written in phase 1 only. Assumes nothing.
+use native.Mathlib.Omega.{arith}
+use Rattle.watching.proofs.Takings.{is-finished, is-unfinished}
+use borrow.Author.Needs.{needs}
+use Rattle.watching.proofs.finish_line.Statement.{statement}
+use Rattle.watching.proofs.finish_line.Tie as tie
+
+returns : tie.Need-returns
+returns c = is-unfinished (c .before .before .before .args .run) _ (c .if1 .taken)
+
+write-tally-requires : tie.Need-write-tally-requires
+write-tally-requires c κs = search needs
+
+bytes-in-requires : tie.Need-bytes-in-requires
+bytes-in-requires c κs = search needs
+
+same-length : tie.Need-same-length
+same-length c = search needs
+
+returns-2 : tie.Need-returns-2
+returns-2 c =
+    let wrote = c .before .before .before in
+    let s = wrote .before .before .before .before .before in
+    is-finished (s .args .run) _ _ (s .pre) _ (wrote .write-tally .result) (wrote .before .before .if1 .left) (omega arith) (omega arith)
+    (wrote .write-tally .ensures) (c .bytes-in .ensures)
+
+pub finish-line-spec : {M : Type 1} → statement M
+finish-line-spec =
+    tie.close (tie.spec returns write-tally-requires bytes-in-requires same-length returns-2)

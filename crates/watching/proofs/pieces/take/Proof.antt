@@ -1,0 +1,115 @@
+-- `watching::pieces::take` meets its contract, by the ways that a chunk is taken. Assumes nothing.
+use native.Mathlib.Omega.{arith}
+use Rattle.watching.proofs.Goings.{writes-length, goes-then}
+use Rattle.watching.proofs.Chunkings.{chunk-unroomed, chunk-unended, chunk-full, chunk-held}
+use borrow.Author.Needs.{needs}
+use Rattle.watching.proofs.pieces.take.Statement.{statement}
+use Rattle.watching.proofs.pieces.take.Tie as tie
+
+least-requires : tie.Need-least-requires
+least-requires c κs = search needs
+
+returns : tie.Need-returns
+returns c =
+    let k = c .before in
+    let s = k .before .before .before .before .before in
+    chunk-unroomed (s .args .run) (s .args .held) _ (s .args .chunk .now) (s .args .part .now) (s .args .state .now) (s .args .out .now)
+    (k .least .ensures) (s .pre) (c .if1 .taken)
+
+line-end-requires : tie.Need-line-end-requires
+line-end-requires c κs = search needs
+
+append-requires : tie.Need-append-requires
+append-requires c κs = search needs
+
+same-length : tie.Need-same-length
+same-length c = search needs
+
+returns-2 : tie.Need-returns-2
+returns-2 c =
+    let a = c .before .before in
+    let e = a .before .before .before in
+    let k = e .before .before in
+    let s = k .before .before .before .before .before in
+    chunk-unended (s .args .run) (s .args .held) _ (s .args .chunk .now) (s .args .part .now) (s .args .state .now) (s .args .out .now) (k .least .ensures)
+    (s .pre) _ _ _ (omega (arith, e .before .if1 .left)) (omega (arith, e .line-end .ensures, a .before .before .if2 .taken)) (a .before .before .if2 .taken)
+    (a .append .ensures)
+
+take-joined-requires : tie.Need-take-joined-requires
+take-joined-requires c κs = search needs
+
+take-lines-requires : tie.Need-take-lines-requires
+take-lines-requires c κs = search needs
+
+sub-if3 : tie.Need-sub-if3
+sub-if3 c = search needs
+
+same-length-2 : tie.Need-same-length-2
+same-length-2 c = search needs
+
+same-length-3 : tie.Need-same-length-3
+same-length-3 c = search needs
+
+same-length-4 : tie.Need-same-length-4
+same-length-4 c = search needs
+
+returns-3 : tie.Need-returns-3
+returns-3 c =
+    let l = c .before .before .before .before .before .before in
+    let f = l .before .before .before .before .before .before .before in
+    let k = f .before .before .before .before .before .before .before in
+    let s = k .before .before .before .before .before in
+    let g = goes-then (f .take-joined .ensures) (l .take-lines .ensures .goes) in
+    chunk-full (s .args .run) (s .args .held) _ (s .args .chunk .now) (s .args .part .now) (s .args .state .now) (s .args .out .now) (k .least .ensures)
+    (s .pre) _ _ _ g (omega (arith, c .if3 .taken, writes-length (g .writes)))
+
+hold-rest-requires : tie.Need-hold-rest-requires
+hold-rest-requires c κs =
+    let l = c .before .before .before .before .before .before .before in
+    let s = l .before .before .before .before .before .before .before .before .before .before .before .before .before .before .before .before .before .before .before in
+    (l .take-lines .ensures .goes .inside, s .pre)
+
+same-length-5 : tie.Need-same-length-5
+same-length-5 c = search needs
+
+same-length-6 : tie.Need-same-length-6
+same-length-6 c = search needs
+
+same-length-7 : tie.Need-same-length-7
+same-length-7 c = search needs
+
+returns-4 : tie.Need-returns-4
+returns-4 c =
+    let h = c .before .before in
+    let l = h .before .before .before .before .before .before .before .before in
+    let f = l .before .before .before .before .before .before .before in
+    let k = f .before .before .before .before .before .before .before in
+    let s = k .before .before .before .before .before in
+    let g = goes-then (f .take-joined .ensures) (l .take-lines .ensures .goes) in
+    let long = writes-length (g .writes) in
+    let left = h .before .before .if3 .left in
+    chunk-held (s .args .run) (s .args .held) _ (s .args .chunk .now) (s .args .part .now) (s .args .state .now) (s .args .out .now) (k .least .ensures)
+    (s .pre) _ _ _ g _ _ (omega (arith, left, long)) (l .take-lines .ensures .stops (omega (arith, left, long, writes-length (f .take-joined .ensures .writes)))) (h .hold-rest .ensures)
+
+pub take-spec : {M : Type 1} → statement M
+take-spec =
+    tie.close
+    (tie.spec
+    least-requires
+    returns
+    line-end-requires
+    append-requires
+    same-length
+    returns-2
+    take-joined-requires
+    take-lines-requires
+    sub-if3
+    same-length-2
+    same-length-3
+    same-length-4
+    returns-3
+    hold-rest-requires
+    same-length-5
+    same-length-6
+    same-length-7
+    returns-4)
