@@ -49,11 +49,6 @@ module _ (b : ℕ) (c s : List ℕ) where
         length-drop (b + length c) s,
       )
 
-pub length-stack : {X : Type 0} (f : ℕ → X) (d : ℕ) → length (stackBy f d) ≡ d
-unfolding stackBy
-length-stack f zero = refl
-length-stack f (suc d) = ap suc (length-stack f d)
-
 -- what stands at a place
 abbrev pub valueAt : List ℕ → List ℕ → List ℕ → ℕ → Value
 valueAt answers base starts k = (getD answers k 0, segment base starts k)

@@ -19,7 +19,8 @@ use Rattle.watcher.specs.Step.{segment, over, PairReady, PairDone, Stack
 use Rattle.watcher.proofs.States.{count-word, state-long}
 use Rattle.watcher.proofs.Judges.{formed-exactly}
 use Rattle.watcher.proofs.Runs.{startsOn}
-use Rattle.watcher.proofs.Segments.{length-over, length-stack, valueAt, values, Laid, length-segment, starts-below}
+use Rattle.watcher.proofs.Arrays.{length-stack}
+use Rattle.watcher.proofs.Segments.{length-over, valueAt, values, Laid, length-segment, starts-below}
 use Rattle.watcher.proofs.Segments.{laid-push, values-push, laid-top, values-top, values-two, laid-pair, values-pair}
 use Rattle.watcher.proofs.Pairing.{starts-after-own}
 use Rattle.watcher.proofs.Walking.{Walking, walking-start, walking-low, walking-few, walking-end, walking-letter, walking-two, walking-one}
