@@ -1,16 +1,17 @@
 -- The ways that the judge of a state goes: each test that fails, and the last. Assumes nothing.
 use mathlib.Core.Path.{_≡_, refl}
-use mathlib.Core.Bool.{true, false, cond}
+use mathlib.Core.Bool.{Bool, true, false, cond}
 use mathlib.Core.List.{List}
 use mathlib.Core.Option.{Option, none, some}
 use Prim.Native.Nat.{ℕ, _+_, _≤_, _<_}
 use native.Mathlib.Decide.{decLe}
 use native.Mathlib.Omega.{arith}
+use lib.Dec.{leb}
 use lib.ListN.{length, getD}
 use borrow.Author.Tests.{le-leb, lt-leb}
 use Rattle.rules.specs.Limits.{mostEntries, ticks}
 use Rattle.watcher.specs.Walk.{isSome, judged, formed, endBy, extent}
-use Rattle.watcher.specs.Form.{sounds, cellsEnd}
+use Rattle.watcher.specs.Form.{sounds, cellsEnd, judgedEnd}
 
 module _ (s : List ℕ) where
   pub formed-least : getD s 0 0 < 1 → false ≡ formed s
@@ -28,40 +29,33 @@ module _ (s : List ℕ) where
       formed-long h = rw (le-leb 1 (getD s 0 0) least, le-leb (getD s 0 0) mostEntries most, lt-leb (2 + getD s 0 0) (length s) h)
 
       module _ (long : 2 + getD s 0 0 ≤ length s) where
-        pub formed-unsound : sounds s ≡ false → false ≡ formed s
+        formed-unsound : sounds s ≡ false → false ≡ formed s
         unfolding formed sounds
         formed-unsound q = rw (le-leb 1 (getD s 0 0) least, le-leb (getD s 0 0) mostEntries most, le-leb (2 + getD s 0 0) (length s) long, q)
 
-        module _ (sound : sounds s ≡ true) where
-          pub formed-early : ticks < getD s 1 0 → false ≡ formed s
-          unfolding formed sounds
-          formed-early h =
-              rw (
-                le-leb 1 (getD s 0 0) least,
-                le-leb (getD s 0 0) mostEntries most,
-                le-leb (2 + getD s 0 0) (length s) long,
-                sound,
-                lt-leb (getD s 1 0) ticks h,
-              )
+        formed-sound : sounds s ≡ true → cond (leb (getD s 1 0) ticks) (isSome (judged s)) false ≡ formed s
+        unfolding formed sounds
+        formed-sound q = rw (le-leb 1 (getD s 0 0) least, le-leb (getD s 0 0) mostEntries most, le-leb (2 + getD s 0 0) (length s) long, q)
 
-          formed-cells : getD s 1 0 ≤ ticks → isSome (judged s) ≡ formed s
-          unfolding formed sounds
-          formed-cells h =
-              rw (
-                le-leb 1 (getD s 0 0) least,
-                le-leb (getD s 0 0) mostEntries most,
-                le-leb (2 + getD s 0 0) (length s) long,
-                sound,
-                le-leb (getD s 1 0) ticks h,
-              )
+        pub formed-early : ticks < getD s 1 0 → false ≡ formed s
+        formed-early h = go (sounds s) refl
+          where
+            go : (b : Bool) → sounds s ≡ b → false ≡ formed s
+            go true q = rw (lt-leb (getD s 1 0) ticks h) at (formed-sound q)
+            go false q = formed-unsound q
 
-          pub extent-cells : getD s 1 0 ≤ ticks → cellsEnd s ≡ extent s
-          unfolding extent cellsEnd
-          extent-cells h = rw (← formed-cells h) (kept (length s) (judged s))
-            where
-              kept : (n : ℕ) (o : Option (List ℕ)) → endBy n o ≡ cond (isSome o) (endBy n o) 0
-              kept n none = refl
-              kept n (some l) = refl
+        -- what is judged last
+        pub extent-judged : getD s 1 0 ≤ ticks → judgedEnd s ≡ extent s
+        unfolding extent cellsEnd judgedEnd
+        extent-judged h = go (sounds s) refl
+          where
+            kept : (n : ℕ) (o : Option (List ℕ)) → endBy n o ≡ cond (isSome o) (endBy n o) 0
+            kept n none = refl
+            kept n (some l) = refl
+
+            go : (b : Bool) → sounds s ≡ b → cond (sounds s) (endBy (length s) (judged s)) 0 ≡ cond (formed s) (endBy (length s) (judged s)) 0
+            go true q = rw (q, ← formed-sound q, le-leb (getD s 1 0) ticks h) (kept (length s) (judged s))
+            go false q = rw (q, ← formed-unsound q)
 
   -- the words of a state not in form
   pub extent-none : false ≡ formed s → 0 ≡ extent s

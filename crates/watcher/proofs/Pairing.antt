@@ -83,7 +83,7 @@ module _ {op : Op} {s answers base starts : List ℕ} {d at t : ℕ} (p : PairRe
       ∙ length-take-le n (drop at s) (omega (arith, length-drop at s, subst (λ (k : ℕ). at + k ≤ length s) (sym q) (p .cell)))
 
   pub pair-steps : StepReady op t ys lent
-  pair-steps = record { range = p .range; few = omega (arith, length-ys, p .few); words = length-lent ∙ words-here }
+  pair-steps = record { range = p .range; few = omega (arith, length-ys, p .few, p .starts-long); words = length-lent ∙ words-here }
 
   module _ {new : List ℕ} {a : ℕ} (k : Stepped op t (getD answers (d - 1) 0) (getD answers d 0) ys lent new a) where
     length-new : length new ≡ n

@@ -45,7 +45,7 @@ pub rest-depth : (f : ℕ → Entry) (n i d : ℕ) → Rest f n i d → d ≤ n 
 rest-depth f n i d r = rw (length-by f i (n - i)) at (scan-depth (entriesBy f i (n - i)) i d r)
 
 -- an operator has at most two possible starts more than its operands
-possible-le : (op : Op) (x y : ℕ) → possible op x y ≤ x + y + 2
+pub possible-le : (op : Op) (x y : ℕ) → possible op x y ≤ x + y + 2
 unfolding possible
 possible-le Either x y = omega arith
 possible-le Both x y = omega arith

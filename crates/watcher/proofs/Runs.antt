@@ -1,6 +1,6 @@
 -- What a walk finds at each entry: its operands on the stack, its cell's words ahead, and a stack that stays low, with few possible starts.
 -- Proved once, for the entries of a tree. Assumes nothing.
-use Prim.Native.Nat.{ℕ, suc, _+_, _-_, _≤_, _<_, _^_}
+use Prim.Native.Nat.{ℕ, suc, _+_, _-_, _≤_, _<_, _^_, _*_}
 use mathlib.Core.Path.{_≡_, subst}
 use mathlib.Core.List.{List, [], _∷_, _++_, append-assoc, append-nil}
 use native.Mathlib.Nat.{sub-zero}
@@ -8,7 +8,7 @@ use native.Mathlib.Omega.{arith}
 use lib.ListN.{length, getD, drop, length-append}
 use Rattle.rules.specs.declared.Op.{Op}
 use Rattle.rules.specs.declared.Op.the-variants.{Either, Both, Without, Chain}
-use Rattle.rules.specs.Limits.{letters, argumentBytes, mostEntries}
+use Rattle.rules.specs.Limits.{letters, argumentBytes}
 use Rattle.rules.specs.Lists.{All}
 use Rattle.rules.specs.Pattern.{Pattern, event, pair, within, size, Proper}
 use Rattle.detector.specs.Memory.{Memory}
@@ -185,11 +185,11 @@ pub ready-within : (n : ℕ) (st : List Value) (ahead : List ℕ) → Ready (Wit
 ready-within n [] ahead r = absurd r
 ready-within n (x ∷ st) ahead r = omega arith
 
--- the stack is never deeper than 32, and never holds more than 62 possible starts
-pub stands-low : (t n i : ℕ) (st : List Value) → Stands t i (n - i) st → i ≤ n → n ≤ mostEntries → length st ≤ 32
-stands-low t n i st d h k = omega (arith, d .low, d .few)
+-- the stack is never deeper than half of the n entries and one, and never holds n possible starts
+pub stands-low : (t n i : ℕ) (st : List Value) → Stands t i (n - i) st → i ≤ n → 2 * length st ≤ n + 1
+stands-low t n i st d h = omega (arith, d .low, d .few)
 
-pub stands-few : (t n i : ℕ) (st : List Value) → Stands t i (n - i) st → i ≤ n → n ≤ mostEntries → startsOn st ≤ 62
+pub stands-few : (t n i : ℕ) (st : List Value) → Stands t i (n - i) st → i ≤ n → startsOn st ≤ n - 1
 unfolding startsOn
-stands-few t n i [] d h k = omega arith
-stands-few t n i (v ∷ st) d h k = omega (arith, d .few)
+stands-few t n i [] d h = omega arith
+stands-few t n i (v ∷ st) d h = omega (arith, d .few)

@@ -49,11 +49,6 @@ module _ (b : ℕ) (c s : List ℕ) where
         length-drop (b + length c) s,
       )
 
-pub length-stack : {X : Type 0} (f : ℕ → X) (d : ℕ) → length (stackBy f d) ≡ d
-unfolding stackBy
-length-stack f zero = refl
-length-stack f (suc d) = ap suc (length-stack f d)
-
 -- what stands at a place
 abbrev pub valueAt : List ℕ → List ℕ → List ℕ → ℕ → Value
 valueAt answers base starts k = (getD answers k 0, segment base starts k)
@@ -61,17 +56,17 @@ valueAt answers base starts k = (getD answers k 0, segment base starts k)
 abbrev pub values : List ℕ → List ℕ → List ℕ → ℕ → List Value
 values answers base starts d = stackBy (valueAt answers base starts) d
 
--- d places are in use
-pub record Laid (answers base starts : List ℕ) (d : ℕ) : Type 0 where
-  pub answers-long : length answers ≡ 32
-  pub base-long : length base ≡ 33
-  pub starts-long : length starts ≡ 62
-  pub low : d ≤ 32
+-- d places are in use, of so many; and there is room for so many possible starts
+pub record Laid (deep many : ℕ) (answers base starts : List ℕ) (d : ℕ) : Type 0 where
+  pub answers-long : length answers ≡ deep
+  pub base-long : length base ≡ deep + 1
+  pub starts-long : length starts ≡ many
+  pub low : d ≤ deep
   pub first : getD base 0 0 ≡ 0
   pub rises : (k : ℕ) → k < d → getD base k 0 ≤ getD base (k + 1) 0
-  pub few : getD base d 0 ≤ 62
+  pub few : getD base d 0 ≤ many
 
-module _ {answers base starts : List ℕ} {d : ℕ} (x : Laid answers base starts d) where
+module _ {deep many : ℕ} {answers base starts : List ℕ} {d : ℕ} (x : Laid deep many answers base starts d) where
   base-from : (k n : ℕ) → k + n ≤ d → getD base k 0 ≤ getD base (k + n) 0
   base-from k zero h = let e : k + 0 ≡ k = omega arith in rw e (omega arith)
   base-from k (suc n) h =
@@ -95,7 +90,7 @@ module _ {answers base starts : List ℕ} {d : ℕ} (x : Laid answers base start
       omega (arith, starts-below k (omega arith), length-segment k (omega arith), x .rises k (omega arith))
 
   -- a letter is pushed
-  module _ (room : d < 32) (v : ℕ) where
+  module _ (room : d < deep) (v : ℕ) where
     base′ : List ℕ
     base′ = set base (d + 1) (getD base d 0)
 
@@ -107,7 +102,7 @@ module _ {answers base starts : List ℕ} {d : ℕ} (x : Laid answers base start
     unfolding base′
     above = getD-set-same base (d + 1) (getD base d 0) 0 (omega (arith, x .base-long))
 
-    pub laid-push : Laid (set answers d v) (set base (d + 1) (getD base d 0)) starts (d + 1)
+    pub laid-push : Laid deep many (set answers d v) (set base (d + 1) (getD base d 0)) starts (d + 1)
     unfolding base′
     laid-push = record {
       answers-long = length-set answers d v ∙ x .answers-long;
@@ -135,7 +130,7 @@ module _ {answers base starts : List ℕ} {d : ℕ} (x : Laid answers base start
 
   -- the answer on top changes
   module _ (one : 1 ≤ d) (v : ℕ) where
-    pub laid-top : Laid (set answers (d - 1) v) base starts d
+    pub laid-top : Laid deep many (set answers (d - 1) v) base starts d
     laid-top = record {
       answers-long = length-set answers (d - 1) v ∙ x .answers-long;
       base-long = x .base-long;
@@ -157,14 +152,14 @@ module _ {answers base starts : List ℕ} {d : ℕ} (x : Laid answers base start
         stack-pop f d one ∙ ap₂ (λ (a : Value) (l : List Value). a ∷ l) top rest
 
 -- two operands, at D - 1 and at the top D, become one
-module _ {answers base starts : List ℕ} {D : ℕ} (x : Laid answers base starts (D + 1)) (one : 1 ≤ D) where
+module _ {deep many : ℕ} {answers base starts : List ℕ} {D : ℕ} (x : Laid deep many answers base starts (D + 1)) (one : 1 ≤ D) where
   pub values-two : values answers base starts (D + 1)
       ≡ valueAt answers base starts D ∷ valueAt answers base starts (D - 1) ∷ values answers base starts (D - 1)
   values-two =
       let f : ℕ → Value = valueAt answers base starts in
       stack-push f D ∙ ap (λ (l : List Value). f D ∷ l) (stack-pop f D one)
 
-  module _ (v : ℕ) (own : List ℕ) (room : getD base D 0 + length own ≤ 62) where
+  module _ (v : ℕ) (own : List ℕ) (room : getD base D 0 + length own ≤ many) where
     after : List ℕ
     after = set base D (getD base D 0 + length own)
 
@@ -182,7 +177,7 @@ module _ {answers base starts : List ℕ} {D : ℕ} (x : Laid answers base start
     long : getD base D 0 ≤ length starts
     long = omega (arith, base-le x D (D + 1) (omega arith) (omega arith), x .few, x .starts-long)
 
-    pub laid-pair : Laid (set answers (D - 1) v) (set base D (getD base D 0 + length own)) (over (getD base D 0) own starts) D
+    pub laid-pair : Laid deep many (set answers (D - 1) v) (set base D (getD base D 0 + length own)) (over (getD base D 0) own starts) D
     unfolding after
     laid-pair = record {
       answers-long = length-set answers (D - 1) v ∙ x .answers-long;

@@ -36,8 +36,3 @@ module _ (f : ℕ → Entry) (n i d : ℕ) where
       chosen : (t : Bool) → isNone (cond t none (some i)) ≡ t
       chosen true = refl
       chosen false = refl
-
--- a test for none
-pub none-by : (o : Option ℕ) → isNone o ≡ true → o ≡ none
-none-by none q = refl
-none-by (some i) q = let z : _≡_ {A = ℕ} 0 1 = cc in absurd (omega arith)

@@ -1,6 +1,6 @@
 -- The walk of a tick with its stack in arrays: what each kind of entry does to the arrays keeps it, and makes the room that is asked before.
 -- Assumes nothing.
-use Prim.Native.Nat.{ℕ, _+_, _-_, _≤_, _<_}
+use Prim.Native.Nat.{ℕ, _+_, _-_, _*_, _≤_, _<_}
 use mathlib.Core.Path.{_≡_, refl, sym, ap, subst, _∙_}
 use mathlib.Core.List.{List, [], _∷_, _++_}
 use native.Mathlib.Omega.{arith}
@@ -8,54 +8,64 @@ use lib.ListN.{length, getD, take, drop, set, length-append, length-drop}
 use lib.Seq.{drop-drop, length-take-le}
 use borrow.Rule.Slice.PartMut.{putMid}
 use Rattle.rules.specs.declared.Op.{Op}
-use Rattle.rules.specs.Limits.{ticks}
+use Rattle.rules.specs.Limits.{ticks, mostEntries}
 use Rattle.body.specs.declared.Entry.the-variants.{Letter, Pair, Within, Wrong}
 use Rattle.body.specs.Stack.{stackBy}
 use Rattle.body.proofs.Stacks.{stack-pop}
 use Rattle.cell.specs.Cell.{cellWords, cellAnswer, cellAfter, startsAfter}
 use Rattle.cell.proofs.Words.{length-after, length-starts-after}
 use Rattle.watcher.specs.Walk.{entryIn, letterAnswer, withinAnswer, lastAnswer, answerOf}
-use Rattle.watcher.specs.Step.{segment, over, PairReady, PairDone, StepsReady, StepsDone}
-use Rattle.watcher.proofs.States.{state-long}
+use Rattle.watcher.specs.Step.{segment, over, PairReady, PairDone, StackFor, StepsReady, StepsDone}
+use Rattle.watcher.proofs.States.{count-word, state-long}
 use Rattle.watcher.proofs.Judges.{formed-exactly}
 use Rattle.watcher.proofs.Runs.{startsOn}
-use Rattle.watcher.proofs.Segments.{length-over, length-stack, valueAt, values, Laid, length-segment, starts-below}
+use Rattle.watcher.proofs.Arrays.{length-stack}
+use Rattle.watcher.proofs.Segments.{length-over, valueAt, values, Laid, length-segment, starts-below}
 use Rattle.watcher.proofs.Segments.{laid-push, values-push, laid-top, values-top, values-two, laid-pair, values-pair}
 use Rattle.watcher.proofs.Pairing.{starts-after-own}
 use Rattle.watcher.proofs.Walking.{Walking, walking-start, walking-low, walking-few, walking-end, walking-letter, walking-two, walking-one}
 use Rattle.watcher.proofs.Walking.{walking-wrong, walking-within, walking-cell, walking-pair}
 
 -- before entry i of the old words: s are the words now, the next cell begins at a place, and the stack has d places
-pub record Stepping (t w : ℕ) (old s answers base starts : List ℕ) (at d i : ℕ) : Type 0 where
+pub record Stepping (deep many t w : ℕ) (old s answers base starts : List ℕ) (at d i : ℕ) : Type 0 where
   pub within : i ≤ getD old 0 0
   pub long : length s ≡ length old
-  pub laid : Laid answers base starts d
+  pub enough : getD old 0 0 < 2 * deep
+  pub holds : getD old 0 0 ≤ many + 1
+  pub most : many ≤ 62
+  pub laid : Laid deep many answers base starts d
   pub walking : Walking t w old s i at (values answers base starts d)
 
 -- the words of the entries are there
 pub ready-long : {s : List ℕ} {t : ℕ} → StepsReady s t → 2 + getD s 0 0 ≤ length s
 ready-long {s} r = state-long (formed-exactly s .0 (r .form))
 
+-- and they are at most 63
+pub few-entries : {s : List ℕ} {t : ℕ} → StepsReady s t → getD s 0 0 ≤ mostEntries
+few-entries {s} r = let f = formed-exactly s .0 (r .form) in omega (arith, count-word f, f .bodied .few)
+
 pub stepping-start : (t w : ℕ) (s answers base starts : List ℕ) → StepsReady s t
-    → length answers ≡ 32 → length base ≡ 33 → length starts ≡ 62 → getD base 0 0 ≡ 0
-    → Stepping t w s s answers base starts (2 + getD s 0 0) 0 0
+    → StackFor (getD s 0 0) answers base starts → Stepping (length answers) (length starts) t w s s answers base starts (2 + getD s 0 0) 0 0
 unfolding stackBy
-stepping-start t w s answers base starts r la lb ls z = record {
+stepping-start t w s answers base starts r k = record {
   within = omega arith;
   long = refl;
+  enough = k .deep;
+  holds = k .many;
+  most = k .most;
   laid = record {
-    answers-long = la;
-    base-long = lb;
-    starts-long = ls;
+    answers-long = refl;
+    base-long = k .based;
+    starts-long = refl;
     low = omega arith;
-    first = z;
+    first = k .first;
     rises = λ k h. let no : ⊥ = omega arith in absurd no;
-    few = omega arith;
+    few = omega (arith, k .first);
   };
   walking = walking-start t w s (r .form) (r .late);
 }
 
-module _ {t w : ℕ} {old s answers base starts : List ℕ} {at d i : ℕ} (x : Stepping t w old s answers base starts at d i) where
+module _ {deep many t w : ℕ} {old s answers base starts : List ℕ} {at d i : ℕ} (x : Stepping deep many t w old s answers base starts at d i) where
   pub stepping-long : 2 + getD old 0 0 ≤ length s
   stepping-long = omega (arith, x .long, state-long (x .walking .form))
 
@@ -72,15 +82,18 @@ module _ {t w : ℕ} {old s answers base starts : List ℕ} {at d i : ℕ} (x : 
 
     -- a letter
     module _ (n : ℕ) (q : entryIn s i ≡ Letter n) where
-      pub stepping-room : d < 32
+      pub stepping-room : d < deep
       stepping-room =
-          omega (arith, walking-low (walking-letter (x .walking) h n q .1) (omega arith), length-stack (valueAt answers base starts) d)
+          omega (arith, x .enough, walking-low (walking-letter (x .walking) h n q .1) (omega arith), length-stack (valueAt answers base starts) d)
 
       pub stepping-letter : (v : ℕ) → v ≡ letterAnswer t w n
-          → Stepping t w old s (set answers d v) (set base (d + 1) (getD base d 0)) starts at (d + 1) (i + 1)
+          → Stepping deep many t w old s (set answers d v) (set base (d + 1) (getD base d 0)) starts at (d + 1) (i + 1)
       stepping-letter v e = record {
         within = omega arith;
         long = x .long;
+        enough = x .enough;
+        holds = x .holds;
+        most = x .most;
         laid = laid-push (x .laid) stepping-room v;
         walking = rw (values-push (x .laid) stepping-room v, e) (walking-letter (x .walking) h n q .1);
       }
@@ -91,12 +104,15 @@ module _ {t w : ℕ} {old s answers base starts : List ℕ} {at d i : ℕ} (x : 
       stepping-one = omega (arith, walking-one (x .walking) h n q, length-stack (valueAt answers base starts) d)
 
       pub stepping-within : (v : ℕ) → v ≡ withinAnswer t n (getD answers (d - 1) 0)
-          → Stepping t w old s (set answers (d - 1) v) base starts at d (i + 1)
+          → Stepping deep many t w old s (set answers (d - 1) v) base starts at d (i + 1)
       stepping-within v e =
           let k = subst (Walking t w old s i at) (stack-pop (valueAt answers base starts) d stepping-one) (x .walking) in
           record {
             within = omega arith;
             long = x .long;
+            enough = x .enough;
+            holds = x .holds;
+            most = x .most;
             laid = laid-top (x .laid) stepping-one v;
             walking = rw (values-top (x .laid) stepping-one v, e) (walking-within k h n q .1);
           }
@@ -105,7 +121,7 @@ module _ {t w : ℕ} {old s answers base starts : List ℕ} {at d i : ℕ} (x : 
     stepping-two op q = omega (arith, walking-two (x .walking) h op q, length-stack (valueAt answers base starts) d)
 
 -- an operator, whose right operand stands at D
-module _ {t w : ℕ} {old s answers base starts : List ℕ} {at D i : ℕ} (x : Stepping t w old s answers base starts at (D + 1) i)
+module _ {deep many t w : ℕ} {old s answers base starts : List ℕ} {at D i : ℕ} (x : Stepping deep many t w old s answers base starts at (D + 1) i)
     (h : i < getD old 0 0) (op : Op) (q : entryIn s i ≡ Pair op) (one : 1 ≤ D) where
   abbrev xs : List ℕ
   xs = segment base starts (D - 1)
@@ -155,11 +171,12 @@ module _ {t w : ℕ} {old s answers base starts : List ℕ} {at D i : ℕ} (x : 
   rises : getD base (D - 1) 0 ≤ getD base D 0
   rises = let e : D - 1 + 1 ≡ D = omega arith in subst (λ (k : ℕ). getD base (D - 1) 0 ≤ getD base k 0) e (x .laid .rises (D - 1) (omega arith))
 
-  room : getD base D 0 + length own ≤ 62
+  room : getD base D 0 + length own ≤ many
   unfolding startsOn
   room =
       omega (
         arith,
+        x .holds,
         walking-few next (omega arith),
         length-append xs own,
         length-xs,
@@ -176,19 +193,22 @@ module _ {t w : ℕ} {old s answers base starts : List ℕ} {at D i : ℕ} (x : 
     two = one;
     answers-long = omega (arith, x .laid .answers-long, x .laid .low);
     base-long = omega (arith, x .laid .base-long, x .laid .low);
-    starts-long = x .laid .starts-long;
+    starts-long = omega (arith, x .laid .starts-long, x .most);
     rises = x .laid .rises D (omega arith);
-    few = x .laid .few;
+    few = omega (arith, x .laid .few, x .laid .starts-long);
     cell = rw length-ys at fits;
-    room = rw length-ys at (rw (length-starts-after op [] ys new length-new) at room);
+    room = rw (x .laid .starts-long) (rw length-ys at (rw (length-starts-after op [] ys new length-new) at room));
   }
 
   pub stepping-pair : {s′ answers′ base′ starts′ : List ℕ} {r : ℕ}
-      → PairDone op s answers base starts D at t s′ answers′ base′ starts′ r → Stepping t w old s′ answers′ base′ starts′ r D (i + 1)
+      → PairDone op s answers base starts D at t s′ answers′ base′ starts′ r → Stepping deep many t w old s′ answers′ base′ starts′ r D (i + 1)
   stepping-pair g =
       rw (g .place, g .words, g .answered, g .based, g .started) (record {
         within = omega arith;
         long = length-over at new s (omega (arith, length-new, fits)) ∙ x .long;
+        enough = x .enough;
+        holds = x .holds;
+        most = x .most;
         laid = laid-pair (x .laid) one answer own room;
         walking = rw (values-pair (x .laid) one answer own room) next;
       })

@@ -1,6 +1,6 @@
 -- A tick's walk, a turn at a time, for a loop: the words so far, the place of the next cell and the stack lead to the whole walk's end.
 -- Assumes nothing.
-use Prim.Native.Nat.{ℕ, _+_, _-_, _≤_, _<_, _^_}
+use Prim.Native.Nat.{ℕ, _+_, _-_, _*_, _≤_, _<_, _^_}
 use mathlib.Core.Path.{_≡_, refl, sym, ap, subst, _∙_}
 use mathlib.Core.Bool.{true}
 use mathlib.Core.List.{List, [], _∷_, _++_}
@@ -65,11 +65,11 @@ module _ {t w : ℕ} {old s : List ℕ} {i at : ℕ} {st : List Value} (x : Walk
   pub walking-small : All (Small t) st
   walking-small = stands .small
 
-  pub walking-low : i ≤ getD old 0 0 → length st ≤ 32
-  walking-low h = stands-low t (getD old 0 0) i st stands h (omega (arith, count-word (x .form), x .form .bodied .few))
+  pub walking-low : i ≤ getD old 0 0 → 2 * length st ≤ getD old 0 0 + 1
+  walking-low h = stands-low t (getD old 0 0) i st stands h
 
-  pub walking-few : i ≤ getD old 0 0 → startsOn st ≤ 62
-  walking-few h = stands-few t (getD old 0 0) i st stands h (omega (arith, count-word (x .form), x .form .bodied .few))
+  pub walking-few : i ≤ getD old 0 0 → startsOn st ≤ getD old 0 0 - 1
+  walking-few h = stands-few t (getD old 0 0) i st stands h
 
   -- the end: one value is left, and these are the words
   pub walking-end : getD old 0 0 ≤ i → (length st ≡ 1) × (lastAnswer st ≡ answerOf t w old) × (set s 1 (t + 1) ≡ wordsAfter t w old)

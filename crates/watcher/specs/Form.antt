@@ -1,17 +1,20 @@
 -- What the functions that judge and open a state promise each other; no public call cites these. Assumes nothing: these are definitions.
 use mathlib.Core.Path.{_≡_}
-use mathlib.Core.Bool.{Bool, true}
+use mathlib.Core.Bool.{Bool, cond}
 use mathlib.Core.Logic.{_⊎_}
 use mathlib.Core.List.{List}
-use Prim.Native.Nat.{ℕ, _+_, _*_, _^_, _≤_, _<_}
-use lib.ListN.{length, getD}
+use mathlib.Core.Option.{none, some}
+use Prim.Native.Nat.{ℕ, zero, suc, _+_, _*_, _^_, _≤_, _<_}
+use lib.ListN.{length, getD, drop}
 use Rattle.rules.specs.Limits.{argumentBytes, mostEntries}
+use Rattle.rules.specs.declared.Op.{Op}
 use Rattle.body.specs.declared.Entry.{Entry}
 use Rattle.body.specs.declared.Entry.the-variants.{Letter, Pair, Within, Wrong}
 use Rattle.body.specs.Entry.{entriesBy, entryAt}
 use Rattle.body.specs.Check.{scan}
+use Rattle.cell.specs.Cell.{cellWords}
 use Rattle.watcher.specs.State.{wordOf}
-use Rattle.watcher.specs.Walk.{cellsNeeded, entryIn, isNone, judged, endBy}
+use Rattle.watcher.specs.Walk.{cellsNeeded, entryIn, isNone, judgeCell, judged, endBy}
 
 -- the entries of a state break no rule
 unfoldable pub sounds : List ℕ → Bool
@@ -27,10 +30,21 @@ pub record Entered (s : List ℕ) (n : ℕ) : Type 0 where
   pub most : n ≤ mostEntries
   pub long : 2 + n ≤ length s
 
--- besides, the entries are sound
-pub record CellsReady (s : List ℕ) (n : ℕ) : Type 0 where
-  pub entered : Entered s n
-  pub sound : sounds s ≡ true
+-- where the cells end, 0 if the entries break a rule
+unfoldable pub judgedEnd : List ℕ → ℕ
+judgedEnd s = cond (sounds s) (cellsEnd s) 0
+
+-- a cell may be judged at a place, where the right operand has y possible starts
+pub record CellReady (s : List ℕ) (at y : ℕ) : Type 0 where
+  pub few : y ≤ 62
+  pub low : 2 ≤ at
+  pub inside : at ≤ length s
+
+-- r is the place after the cell, 0 if it is not there or not in form
+abbrev pub CellEnds : List ℕ → Op → ℕ → ℕ → ℕ → Type 0
+CellEnds s op at y zero = judgeCell (getD s 1 0) op y (drop at s) ≡ none
+CellEnds s op at y (suc e) =
+    (suc e ≡ at + cellWords op y) × (suc e ≤ length s) × (judgeCell (getD s 1 0) op y (drop at s) ≡ some (drop (suc e) s))
 
 -- an entry whose word fits 64 bits
 abbrev pub Narrow : Entry → Type 0

@@ -2,7 +2,7 @@
 use mathlib.Core.Path.{_≡_}
 use mathlib.Core.Bool.{true}
 use mathlib.Core.List.{List, [], _++_}
-use Prim.Native.Nat.{ℕ, _+_, _-_, _≤_, _<_}
+use Prim.Native.Nat.{ℕ, _+_, _-_, _*_, _≤_, _<_}
 use lib.ListN.{length, getD, take, drop, set}
 use Rattle.rules.specs.declared.Op.{Op}
 use Rattle.rules.specs.declared.Op.the-variants.{Either, Both, Without, Chain}
@@ -22,6 +22,14 @@ pub record StepsReady (s : List ℕ) (t : ℕ) : Type 0 where
 pub record StepsDone (s : List ℕ) (t w : ℕ) (s′ : List ℕ) (r : ℕ) : Type 0 where
   pub answer : r ≡ answerOf t w s
   pub words : s′ ≡ wordsAfter t w s
+
+-- the arrays of a stack for n entries: it is never deeper than (n + 1) / 2, and has fewer possible starts than n
+pub record StackFor (n : ℕ) (answers base starts : List ℕ) : Type 0 where
+  pub deep : n < 2 * length answers
+  pub based : length base ≡ length answers + 1
+  pub many : n ≤ length starts + 1
+  pub most : length starts ≤ 62
+  pub first : getD base 0 0 ≡ 0
 
 -- a state may take ticks, one after the other
 pub record FeedReady (s ts ws old : List ℕ) : Type 0 where
@@ -56,11 +64,11 @@ pub record PairReady (op : Op) (s answers base starts : List ℕ) (d at t : ℕ)
   pub two : 1 ≤ d
   pub answers-long : d < length answers
   pub base-long : d + 1 < length base
-  pub starts-long : length starts ≡ 62
+  pub starts-long : length starts ≤ 62
   pub rises : getD base d 0 ≤ getD base (d + 1) 0
-  pub few : getD base (d + 1) 0 ≤ 62
+  pub few : getD base (d + 1) 0 ≤ length starts
   pub cell : at + cellWords op (getD base (d + 1) 0 - getD base d 0) ≤ length s
-  pub room : getD base d 0 + possible op 0 (getD base (d + 1) 0 - getD base d 0) ≤ 62
+  pub room : getD base d 0 + possible op 0 (getD base (d + 1) 0 - getD base d 0) ≤ length starts
 
 -- it was stepped, where x and y are the operands' answers, ys the right one's possible starts, and c the cell as it was: the answer and the
 -- starts stand at the left operand's place, the cell is as it becomes, and r is the place after it

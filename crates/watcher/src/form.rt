@@ -1,13 +1,13 @@
 // Whether a state is in form, and how many words it has.
-use body::Depth;
 use body::Entry;
+use rules::Op;
 ghost use mathlib.Core.Path.{_≡_};
 ghost use Prim.Native.Nat.{_+_, _<_};
 ghost use lib.ListN.{length};
 ghost use Rattle.watcher.specs.Walk.{entryIn, extent};
-ghost use Rattle.watcher.specs.Form.{Entered, CellsReady, sounds, cellsEnd};
+ghost use Rattle.watcher.specs.Form.{Entered, CellReady, CellEnds, judgedEnd};
 
-// The words of a state, 0 if it is not in form: the number of entries, their words, a sound body, the next tick, and every cell.
+// The words of a state, 0 if it is not in form: the number of entries, their words, the next tick, a sound body, and every cell.
 pub(crate) fn extent(state: &[u64]) -> usize
     ensures { λ r. ⌜ r ≡ extent (now (state .entry)) ⌝ }
 {
@@ -25,13 +25,10 @@ pub(crate) fn extent(state: &[u64]) -> usize
     if state.len() < 2 + n {
         return 0;
     }
-    if sound_entries(state, n) {
-        if 4294967296 < state[1] {
-            return 0;
-        }
-        return cells_end(state, n);
+    if 4294967296 < state[1] {
+        return 0;
     }
-    0
+    judged_end(state, n)
 }
 
 // Entry i of a state.
@@ -43,34 +40,13 @@ pub(crate) fn entry_in(state: &[u64], i: usize) -> Entry
     body::decode(word % 256, word / 256)
 }
 
-// Whether the entries are a sound body.
-fn sound_entries(state: &[u64], n: usize) -> bool
+// Where the cells end, 0 if the entries are no sound body, or a cell is not there or not in form.
+// On the stack is p of each tree: a byte holds it, and of at most 63 entries there are at most 63 trees.
+fn judged_end(state: &[u64], n: usize) -> usize
     requires { ⌜ Entered (now state) n ⌝ }
-    ensures { λ r. ⌜ r ≡ sounds (now (state .entry)) ⌝ }
+    ensures { λ r. ⌜ r ≡ judgedEnd (now (state .entry)) ⌝ }
 {
-    let mut i: usize = 0;
-    let mut trees: u64 = 0;
-    while i < n {
-        match body::depth_after(entry_in(state, i), trees) {
-            Depth::To(left) => {
-                trees = left;
-            }
-            Depth::Lacks => {
-                return false;
-            }
-        }
-        i += 1;
-    }
-    trees == 1
-}
-
-// Where the cells end, 0 if one is not there or not in form.
-fn cells_end(state: &[u64], n: usize) -> usize
-    requires { ⌜ CellsReady (now state) n ⌝ }
-    ensures { λ r. ⌜ r ≡ cellsEnd (now (state .entry)) ⌝ }
-{
-    let next = state[1];
-    let mut possible = [0usize; 32];
+    let mut possible = [0u8; 64];
     let mut d: usize = 0;
     let mut at = 2 + n;
     let mut i: usize = 0;
@@ -83,25 +59,41 @@ fn cells_end(state: &[u64], n: usize) -> usize
                 d += 1;
             }
             Entry::Pair(op) => {
-                body::at_least(d, 2);
-                let y = possible[d - 1];
-                let x = possible[d - 2];
-                crate::small(x, y);
-                let end = at + cell::cell_words(op, y);
-                if state.len() < end {
+                if d < 2 {
                     return 0;
                 }
-                if cell::cell_fits(op, &state[at..end], next) {
-                    possible[d - 2] = cell::possible_of(op, x, y);
-                    d -= 1;
-                    at = end;
-                } else {
+                let y = possible[d - 1] as usize;
+                let x = possible[d - 2] as usize;
+                let end = cell_end(op, state, at, y);
+                if end == 0 {
+                    return 0;
+                }
+                possible[d - 2] = cell::possible_of(op, x, y) as u8;
+                d -= 1;
+                at = end;
+            }
+            Entry::Within(_) => {
+                if d < 1 {
                     return 0;
                 }
             }
-            Entry::Within(_) => {}
-            Entry::Wrong => {}
+            Entry::Wrong => return 0,
         }
     }
-    at
+    if d == 1 { at } else { 0 }
+}
+
+// The place after the cell of an operator, whose right operand has y possible starts; 0 if the cell is not there or not in form.
+fn cell_end(op: Op, state: &[u64], at: usize, y: usize) -> usize
+    requires { ⌜ CellReady (now state) at y ⌝ }
+    ensures { λ r. ⌜ CellEnds (now (state .entry)) op at y r ⌝ }
+{
+    let end = at + cell::cell_words(op, y);
+    if state.len() < end {
+        return 0;
+    }
+    if cell::cell_fits(op, &state[at..end], state[1]) {
+        return end;
+    }
+    0
 }

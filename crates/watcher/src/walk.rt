@@ -3,20 +3,58 @@ use body::Entry;
 use rules::Op;
 ghost use mathlib.Core.Path.{_≡_};
 ghost use Prim.Native.Nat.{_<_};
+ghost use lib.ListN.{getD};
 ghost use Rattle.rules.specs.Limits.{ticks};
 ghost use Rattle.watcher.specs.Walk.{letterAnswer, withinAnswer};
-ghost use Rattle.watcher.specs.Step.{StepsReady, StepsDone, FeedReady, FeedDone, ownFrom, PairReady, PairDone};
+ghost use Rattle.watcher.specs.Step.{StackFor, StepsReady, StepsDone, FeedReady, FeedDone, ownFrom, PairReady, PairDone};
 
 // Takes a tick t with its events and gives the answer: start + 1 of the window that ends at t, 0 for none.
-// On the stack are at most 32 answers, and at most 62 possible starts: those at place k are starts[base[k]..base[k + 1]].
+// The stack of a small pattern is small, and arrays are filled at each call, so it has smaller ones.
 pub(crate) fn step(state: &mut [u64], t: u64, events: u32) -> u64
     requires { ⌜ StepsReady (now state) t ⌝ }
     ensures { λ r. ⌜ StepsDone (now (state .entry)) t events (now (state .exit)) r ⌝ }
 {
-    let n = state[0] as usize;
+    if state[0] < 16 {
+        return step_small(state, t, events);
+    }
+    step_large(state, t, events)
+}
+
+// For up to 15 entries: at most 8 answers and 14 possible starts.
+fn step_small(state: &mut [u64], t: u64, events: u32) -> u64
+    requires { ⌜ StepsReady (now state) t × (getD (now state) 0 0 < 16) ⌝ }
+    ensures { λ r. ⌜ StepsDone (now (state .entry)) t events (now (state .exit)) r ⌝ }
+{
+    let mut answers = [0u64; 8];
+    let mut base = [0usize; 9];
+    let mut starts = [0u64; 14];
+    step_over(state, t, events, &mut answers, &mut base, &mut starts)
+}
+
+// For up to 63 entries: at most 32 answers and 62 possible starts.
+fn step_large(state: &mut [u64], t: u64, events: u32) -> u64
+    requires { ⌜ StepsReady (now state) t ⌝ }
+    ensures { λ r. ⌜ StepsDone (now (state .entry)) t events (now (state .exit)) r ⌝ }
+{
     let mut answers = [0u64; 32];
     let mut base = [0usize; 33];
     let mut starts = [0u64; 62];
+    step_over(state, t, events, &mut answers, &mut base, &mut starts)
+}
+
+// Steps the entries in order, with a stack in the arrays: the possible starts at place k are starts[base[k]..base[k + 1]].
+fn step_over(
+    state: &mut [u64],
+    t: u64,
+    events: u32,
+    answers: &mut [u64],
+    base: &mut [usize],
+    starts: &mut [u64],
+) -> u64
+    requires { ⌜ StepsReady (now state) t × StackFor (getD (now state) 0 0) (now answers) (now base) (now starts) ⌝ }
+    ensures { λ r. ⌜ StepsDone (now (state .entry)) t events (now (state .exit)) r ⌝ }
+{
+    let n = state[0] as usize;
     let mut at = 2 + n;
     let mut d: usize = 0;
     let mut i: usize = 0;
@@ -36,7 +74,7 @@ pub(crate) fn step(state: &mut [u64], t: u64, events: u32) -> u64
             Entry::Pair(op) => {
                 body::at_least(d, 2);
                 d -= 1;
-                at = pair(op, state, &mut answers, &mut base, &mut starts, d, at, t);
+                at = pair(op, state, answers, base, starts, d, at, t);
             }
             Entry::Wrong => {}
         }

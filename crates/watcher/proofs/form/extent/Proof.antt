@@ -1,9 +1,8 @@
 -- `watcher::form::extent` meets its contract: each test that fails, and the last, by the definition of the extent. Assumes nothing.
-use mathlib.Core.Path.{sym, _∙_}
+use mathlib.Core.Path.{_∙_}
 use native.Mathlib.Omega.{arith}
 use borrow.Author.Needs.{needs}
-use Rattle.watcher.proofs.Formed.{formed-short, formed-least, formed-most, formed-long, formed-unsound, formed-early}
-use Rattle.watcher.proofs.Formed.{extent-cells, extent-none}
+use Rattle.watcher.proofs.Formed.{formed-short, formed-least, formed-most, formed-long, formed-early, extent-judged, extent-none}
 use Rattle.watcher.proofs.form.extent.Statement.{statement}
 use Rattle.watcher.proofs.form.extent.Tie as tie
 
@@ -25,31 +24,17 @@ add-if4 c = search needs
 returns-4 : tie.Need-returns-4
 returns-4 c = extent-none _ (formed-long _ (omega arith) (omega arith) (omega arith))
 
-sound-entries-requires : tie.Need-sound-entries-requires
-sound-entries-requires c κs = search needs
-
-shared-slice-read-if6 : tie.Need-shared-slice-read-if6
-shared-slice-read-if6 c = search needs
+shared-slice-read-if5 : tie.Need-shared-slice-read-if5
+shared-slice-read-if5 c = search needs
 
 returns-5 : tie.Need-returns-5
-returns-5 c =
-    let f = c .before .before .before in
-    let q = sym (f .sound-entries .ensures) ∙ c .before .before .if5 .taken in
-    extent-none _ (formed-early _ (omega arith) (omega arith) (omega arith) q (omega arith))
+returns-5 c = extent-none _ (formed-early _ (omega arith) (omega arith) (omega arith) (omega arith))
 
-cells-end-requires : tie.Need-cells-end-requires
-cells-end-requires c κs =
-    let f = c .before .before .before in
-    record { entered = search needs; sound = sym (f .sound-entries .ensures) ∙ c .before .before .if5 .taken }
+judged-end-requires : tie.Need-judged-end-requires
+judged-end-requires c κs = search needs
 
 returns-6 : tie.Need-returns-6
-returns-6 c =
-    let f = c .before .before .before .before in
-    let q = sym (f .sound-entries .ensures) ∙ c .before .before .before .if5 .taken in
-    c .cells-end .ensures ∙ extent-cells _ (omega arith) (omega arith) (omega arith) q (omega arith)
-
-returns-7 : tie.Need-returns-7
-returns-7 c = extent-none _ (formed-unsound _ (omega arith) (omega arith) (omega arith) (sym (c .before .sound-entries .ensures) ∙ c .if5 .left))
+returns-6 c = c .judged-end .ensures ∙ extent-judged _ (omega arith) (omega arith) (omega arith) (omega arith)
 
 pub extent-spec : {M : Type 1} → statement M
 extent-spec =
@@ -61,9 +46,7 @@ extent-spec =
     returns-3
     add-if4
     returns-4
-    sound-entries-requires
-    shared-slice-read-if6
+    shared-slice-read-if5
     returns-5
-    cells-end-requires
-    returns-6
-    returns-7)
+    judged-end-requires
+    returns-6)

@@ -1,264 +1,39 @@
--- `watcher::walk::step` meets its contract. The loop's invariant: the words, the place of the next cell and the stack in the arrays lead to the
--- end of the walk over the words as they were. The measure is the number of entries left. Assumes nothing.
-use Prim.Native.Nat.{_+_, _-_, _<_}
-use mathlib.Core.Path.{_≡_, refl, sym, _∙_}
+-- `watcher::walk::step` meets its contract: either arrays will do. Assumes nothing.
 use native.Mathlib.Omega.{arith}
 use borrow.Author.Needs.{needs}
-use Rattle.body.specs.declared.Entry.the-variants.{Letter, Pair, Within}
-use Rattle.watcher.specs.Walk.{entryIn}
-use Rattle.watcher.proofs.Stepping.{Stepping, ready-long, stepping-start, stepping-long, stepping-end, stepping-wrong}
-use Rattle.watcher.proofs.Stepping.{stepping-room, stepping-letter, stepping-one, stepping-within, stepping-two, stepping-ready, stepping-pair}
+use Rattle.watcher.proofs.Stepping.{ready-long}
 use Rattle.watcher.proofs.walk.step.Statement.{statement}
 use Rattle.watcher.proofs.walk.step.Tie as tie
 
-abbrev Inv-loop : tie.InvT-loop
-Inv-loop state₀ t events n answers₀ base₀ starts₀ at₀ d₀ i₀ state answers base starts at d i = Stepping t events state₀ state answers base starts at d i
+slice-read-if1 : tie.Need-slice-read-if1
+slice-read-if1 c = omega (arith, ready-long (c .before .before .pre))
 
-abbrev μ-loop : tie.MeasureT-loop
-μ-loop state₀ t events n answers₀ base₀ starts₀ at₀ d₀ i₀ state answers base starts at d i = n - i
+step-small-requires : tie.Need-step-small-requires
+step-small-requires c κs = search needs
 
-slice-read-n : tie.Need-slice-read-n Inv-loop μ-loop
-slice-read-n c = omega (arith, ready-long (c .before .before .pre))
-
-add-at : tie.Need-add-at Inv-loop μ-loop
-add-at c = omega (arith, ready-long (c .before .before .pre))
-
-loop-holds : tie.Need-loop-holds Inv-loop μ-loop
-loop-holds c =
-    let z = c .before .before in
-    stepping-start (z .args .t) (z .args .events) (z .args .state .now) _ _ _ (z .pre) refl refl refl refl
-
-entry-in-requires : tie.Need-entry-in-requires Inv-loop μ-loop
-entry-in-requires c κs = omega (arith, stepping-long (c .before .before .loop .inv))
-
-add-i : tie.Need-add-i Inv-loop μ-loop
-add-i c = omega (arith, stepping-long (c .before .before .before .loop .inv))
-
-enum-known-entry : tie.Need-enum-known-entry Inv-loop μ-loop
-enum-known-entry c = search needs
-
--- the entry of this turn is a letter, and there is room for it
-letter-here : (c : tie.After-known-told Inv-loop μ-loop)
-    → entryIn (c .before .before .before .before .before .before .loop .state) (c .before .before .before .before .before .before .loop .i)
-    ≡ Letter (c .before .entry .given .0 .0)
-letter-here c = sym (c .before .before .before .entry-in .ensures) ∙ c .before .entry .given .1
-
-letter-room : (c : tie.After-known-told Inv-loop μ-loop) → c .before .before .before .before .before .before .loop .d < 32
-letter-room c =
-    let j = c .before .before .before .before .before in
-    stepping-room (j .before .loop .inv) (j .loop-test .taken) (c .before .entry .given .0 .0) (letter-here c)
-
-letter-answer-requires : tie.Need-letter-answer-requires Inv-loop μ-loop
-letter-answer-requires c κs = search needs
-
-mul-answers : tie.Need-mul-answers Inv-loop μ-loop
-mul-answers c = search needs
-
-array-write-answers : tie.Need-array-write-answers Inv-loop μ-loop
-array-write-answers c = omega (arith, letter-room (c .before))
-
-mul-base : tie.Need-mul-base Inv-loop μ-loop
-mul-base c = search needs
-
-array-read-base : tie.Need-array-read-base Inv-loop μ-loop
-array-read-base c = search needs
-
-add-base : tie.Need-add-base Inv-loop μ-loop
-add-base c = search needs
-
-mul-base-2 : tie.Need-mul-base-2 Inv-loop μ-loop
-mul-base-2 c = search needs
-
-array-write-base : tie.Need-array-write-base Inv-loop μ-loop
-array-write-base c = omega (arith, letter-room (c .before))
-
-add-d : tie.Need-add-d Inv-loop μ-loop
-add-d c = search needs
-
-loop-less : tie.Need-loop-less Inv-loop μ-loop
-loop-less c = search needs
-
-loop-again : tie.Need-loop-again Inv-loop μ-loop
-loop-again c =
-    let a = c .before in
-    let j = a .before .before .before .before .before in
-    stepping-letter (j .before .loop .inv) (j .loop-test .taken) (a .before .entry .given .0 .0) (letter-here a)
-    (c .letter-answer .result) (c .letter-answer .ensures)
-
-enum-known-entry-2 : tie.Need-enum-known-entry-2 Inv-loop μ-loop
-enum-known-entry-2 c = search needs
-
--- a restriction
-within-here : (c : tie.After-known-told2 Inv-loop μ-loop)
-    → entryIn (c .before .before .before .before .before .before .loop .state) (c .before .before .before .before .before .before .loop .i)
-    ≡ Within (c .before .entry2 .given .0 .0)
-within-here c = sym (c .before .before .before .entry-in .ensures) ∙ c .before .entry2 .given .1
-
-at-least-requires : tie.Need-at-least-requires Inv-loop μ-loop
-at-least-requires c κs =
-    let j = c .before .before .before .before .before in
-    stepping-one (j .before .loop .inv) (j .loop-test .taken) (c .before .entry2 .given .0 .0) (within-here c)
-
-sub-within-answer : tie.Need-sub-within-answer Inv-loop μ-loop
-sub-within-answer c = search needs
-
-mul-within-answer : tie.Need-mul-within-answer Inv-loop μ-loop
-mul-within-answer c = search needs
-
-array-read-within-answer : tie.Need-array-read-within-answer Inv-loop μ-loop
-array-read-within-answer c = search needs
-
-within-answer-requires : tie.Need-within-answer-requires Inv-loop μ-loop
-within-answer-requires c κs = search needs
-
-sub-answers : tie.Need-sub-answers Inv-loop μ-loop
-sub-answers c = search needs
-
-mul-answers-2 : tie.Need-mul-answers-2 Inv-loop μ-loop
-mul-answers-2 c = search needs
-
-array-write-answers-2 : tie.Need-array-write-answers-2 Inv-loop μ-loop
-array-write-answers-2 c = search needs
-
-loop-less-2 : tie.Need-loop-less-2 Inv-loop μ-loop
-loop-less-2 c = search needs
-
-loop-again-2 : tie.Need-loop-again-2 Inv-loop μ-loop
-loop-again-2 c =
-    let a = c .before .before in
-    let j = a .before .before .before .before .before in
-    stepping-within (j .before .loop .inv) (j .loop-test .taken) (a .before .entry2 .given .0 .0) (within-here a)
-    (c .within-answer .result) (c .within-answer .ensures)
-
-enum-known-entry-3 : tie.Need-enum-known-entry-3 Inv-loop μ-loop
-enum-known-entry-3 c = search needs
-
--- an operator, whose right operand stands at d - 1
-pair-here : (c : tie.After-known-told3 Inv-loop μ-loop)
-    → entryIn (c .before .before .before .before .before .before .loop .state) (c .before .before .before .before .before .before .loop .i)
-    ≡ Pair (c .before .entry3 .given .0 .0)
-pair-here c = sym (c .before .before .before .entry-in .ensures) ∙ c .before .entry3 .given .1
-
-at-least-requires-2 : tie.Need-at-least-requires-2 Inv-loop μ-loop
-at-least-requires-2 c κs =
-    let j = c .before .before .before .before .before in
-    stepping-two (j .before .loop .inv) (j .loop-test .taken) (c .before .entry3 .given .0 .0) (pair-here c)
-
-pair-stands : (c : tie.After-at-least2 Inv-loop μ-loop)
-    → let k = c .before .before .before .before .before .before .before in
-    Stepping (k .before .before .before .args .t) (k .before .before .before .args .events) (k .before .before .before .args .state .now)
-    (k .loop .state) (k .loop .answers) (k .loop .base) (k .loop .starts) (k .loop .at) (k .loop .d - 1 + 1) (k .loop .i)
-pair-stands c =
-    let k = c .before .before .before .before .before .before .before in
-    let e : k .loop .d - 1 + 1 ≡ k .loop .d = omega (arith, c .at-least2 .ensures) in
-    rw e (k .loop .inv)
-
-sub-d : tie.Need-sub-d Inv-loop μ-loop
-sub-d c = search needs
-
-slice-aggregate-pair : tie.Need-slice-aggregate-pair Inv-loop μ-loop
-slice-aggregate-pair c = search needs
-
-slice-aggregate-pair-2 : tie.Need-slice-aggregate-pair-2 Inv-loop μ-loop
-slice-aggregate-pair-2 c = search needs
-
-slice-aggregate-pair-3 : tie.Need-slice-aggregate-pair-3 Inv-loop μ-loop
-slice-aggregate-pair-3 c = search needs
-
-pair-requires : tie.Need-pair-requires Inv-loop μ-loop
-pair-requires c κs =
-    let l = c .before .before .before .before in
-    let a = l .before in
-    let j = a .before .before .before .before .before in
-    stepping-ready (pair-stands l) (j .loop-test .taken) (a .before .entry3 .given .0 .0) (pair-here a) (omega (arith, l .at-least2 .ensures))
-    (j .before .before .before .before .pre .range)
-
-loop-less-3 : tie.Need-loop-less-3 Inv-loop μ-loop
-loop-less-3 c = search needs
-
-loop-again-3 : tie.Need-loop-again-3 Inv-loop μ-loop
-loop-again-3 c =
-    let p = c .before .before .before .before .before in
-    let l = p .before .before .before .before .before in
-    let a = l .before in
-    let j = a .before .before .before .before .before in
-    stepping-pair (pair-stands l) (j .loop-test .taken) (a .before .entry3 .given .0 .0) (pair-here a) (omega (arith, l .at-least2 .ensures))
-    (p .pair .ensures)
-
-enum-told : tie.Need-enum-told Inv-loop μ-loop
-enum-told c = search needs
-
-loop-less-4 : tie.Need-loop-less-4 Inv-loop μ-loop
-loop-less-4 c = search needs
-
-loop-again-4 : tie.Need-loop-again-4 Inv-loop μ-loop
-loop-again-4 c =
-    let j = c .before .before .before .before in
-    absurd (stepping-wrong (j .before .loop .inv) (j .loop-test .taken) (sym (c .before .before .entry-in .ensures) ∙ c .enum-told .given .1))
-
-add-state : tie.Need-add-state Inv-loop μ-loop
-add-state c = search needs
-
-slice-write-state : tie.Need-slice-write-state Inv-loop μ-loop
-slice-write-state c = omega (arith, stepping-long (c .before .loop .inv))
-
-array-read-result : tie.Need-array-read-result Inv-loop μ-loop
-array-read-result c = search needs
-
-same-length : tie.Need-same-length Inv-loop μ-loop
+same-length : tie.Need-same-length
 same-length c = search needs
 
-returns : tie.Need-returns Inv-loop μ-loop
-returns c = stepping-end (c .before .loop .inv) (c .loop-test .left)
+returns : tie.Need-returns
+returns c = search needs
+
+step-large-requires : tie.Need-step-large-requires
+step-large-requires c κs = search needs
+
+same-length-2 : tie.Need-same-length-2
+same-length-2 c = search needs
+
+returns-2 : tie.Need-returns-2
+returns-2 c = search needs
 
 pub step-spec : {M : Type 1} → statement M
 step-spec =
     tie.close
     (tie.spec
-    Inv-loop
-    μ-loop
-    slice-read-n
-    add-at
-    loop-holds
-    entry-in-requires
-    add-i
-    enum-known-entry
-    letter-answer-requires
-    mul-answers
-    array-write-answers
-    mul-base
-    array-read-base
-    add-base
-    mul-base-2
-    array-write-base
-    add-d
-    loop-less
-    loop-again
-    enum-known-entry-2
-    at-least-requires
-    sub-within-answer
-    mul-within-answer
-    array-read-within-answer
-    within-answer-requires
-    sub-answers
-    mul-answers-2
-    array-write-answers-2
-    loop-less-2
-    loop-again-2
-    enum-known-entry-3
-    at-least-requires-2
-    sub-d
-    slice-aggregate-pair
-    slice-aggregate-pair-2
-    slice-aggregate-pair-3
-    pair-requires
-    loop-less-3
-    loop-again-3
-    enum-told
-    loop-less-4
-    loop-again-4
-    add-state
-    slice-write-state
-    array-read-result
+    slice-read-if1
+    step-small-requires
     same-length
-    returns)
+    returns
+    step-large-requires
+    same-length-2
+    returns-2)
