@@ -16,7 +16,7 @@ use Rattle.watching.specs.Whole.Takes.{none, more}
 use Rattle.watching.specs.Chunk.{mostHeld, Bites, heldIn, IsChunked, lastLines}
 use Rattle.watching.specs.Going.{Unended, Appended, Goes, HeldRest, LastTaken}
 use Rattle.watching.proofs.Writings.{nothing-written}
-use Rattle.watching.proofs.Biting.{stops, held-all}
+use Rattle.watching.proofs.Biting.{stops, held-all, bites-some}
 use Rattle.watching.proofs.Appending.{take-least}
 use Rattle.watching.proofs.Goings.{writes-whole}
 
@@ -85,6 +85,19 @@ module _ (run : Run) (held kept : ℕ) (chunk p s d : List ℕ) (k : kept ≡ mi
           holds = rw (x .held .counts) at (x .held .holds);
           written = rw (x .written) (writes-whole (g .writes));
         }
+
+-- of a chunk that finds room for a line, a byte at least is used, and no more than there are
+module _ {run : Run} {held : ℕ} {chunk p p′ s s′ d d′ : List ℕ} {r : Chunked} (c : IsChunked run held chunk p p′ s s′ d d′ r) where
+  pub chunk-inside : r .used ≤ length chunk
+  chunk-inside = omega (arith, c .used)
+
+  pub chunk-some : 0 < length chunk → mostWritten ≤ length d → 0 < r .used
+  chunk-some h q = omega (arith, c .used, fewer chunk h (c .taken))
+    where
+      fewer : {left : List ℕ} (l : List ℕ) → 0 < length l → Bites (length d) run (heldIn held p) s l (r .run) (c .kept) s′ (c .bytes) left
+          → length left < length l
+      fewer [] h b = absurd (omega arith)
+      fewer (x ∷ l) h b = omega (arith, bites-some q b)
 
 -- the bytes held, of a list that may be short
 module _ (run : Run) (held kept : ℕ) (p s d : List ℕ) (k : kept ≡ min (min held mostHeld) (length p)) where

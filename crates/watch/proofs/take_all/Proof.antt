@@ -1,6 +1,4 @@
 -- `watch::take_all` ends: the turns left fall. The lengths of what is lent stay as they are. Assumes nothing.
-use native.Mathlib.Omega.{arith}
-use Prim.Native.Nat.{_≤_}
 use mathlib.Core.Path.{_≡_}
 use lib.ListN.{length}
 use borrow.Author.Needs.{needs}
@@ -10,7 +8,6 @@ use Rattle.watch.proofs.take_all.Tie as tie
 abbrev Inv-loop : tie.InvT-loop
 Inv-loop state₀ chunk₀ part₀ out₀ p₀ turns₀ state chunk part out p turns =
     (length state ≡ length state₀) × (length chunk ≡ length chunk₀) × (length part ≡ length part₀) × (length out ≡ length out₀)
-    × (p .kept ≤ length part) × (p .gathered ≤ length out)
 
 abbrev μ-loop : tie.MeasureT-loop
 μ-loop state₀ chunk₀ part₀ out₀ p₀ turns₀ state chunk part out p turns = turns
@@ -36,9 +33,6 @@ part-take-chunk-end c = search needs
 take-chunk-requires : tie.Need-take-chunk-requires Inv-loop μ-loop
 take-chunk-requires c κs = search needs
 
-flushed-requires : tie.Need-flushed-requires Inv-loop μ-loop
-flushed-requires c κs = search needs
-
 turns-left-requires : tie.Need-turns-left-requires Inv-loop μ-loop
 turns-left-requires c κs = search needs
 
@@ -46,11 +40,7 @@ loop-less : tie.Need-loop-less Inv-loop μ-loop
 loop-less c = search needs
 
 loop-again : tie.Need-loop-again Inv-loop μ-loop
-loop-again c =
-    let took = c .before .before .before .before .before .before .before .before .before in
-    let read = took .before .before .before .before .before .before .before .before in
-    let l = read .before .before .before in
-    omega (arith, took .take-chunk .kept, took .take-chunk .ensures, read .read-chunk .kept, l .loop .inv, c .before .flushed .ensures)
+loop-again c = search needs
 
 same-length : tie.Need-same-length Inv-loop μ-loop
 same-length c = search needs
@@ -80,7 +70,6 @@ take-all-spec =
     part-take-chunk-start
     part-take-chunk-end
     take-chunk-requires
-    flushed-requires
     turns-left-requires
     loop-less
     loop-again

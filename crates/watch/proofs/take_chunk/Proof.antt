@@ -1,4 +1,4 @@
--- `watch::take_chunk` stays within the chunk, the part and the output; the measure is the bytes of the chunk left. Assumes nothing.
+-- `watch::take_chunk` stays within the chunk; the measure is the bytes of the chunk left. Assumes nothing.
 use Prim.Native.Nat.{_-_, _≤_}
 use mathlib.Core.Path.{_≡_}
 use lib.ListN.{length}
@@ -9,7 +9,6 @@ use Rattle.watch.proofs.take_chunk.Tie as tie
 abbrev Inv-loop : tie.InvT-loop
 Inv-loop chunk part₀ state₀ out₀ p₀ at₀ part state out p at =
     (at ≤ length chunk) × (length part ≡ length part₀) × (length state ≡ length state₀) × (length out ≡ length out₀)
-    × (p .kept ≤ length part) × (p .gathered ≤ length out)
 
 abbrev μ-loop : tie.MeasureT-loop
 μ-loop chunk part₀ state₀ out₀ p₀ at₀ part state out p at = length chunk - at
@@ -17,23 +16,20 @@ abbrev μ-loop : tie.MeasureT-loop
 loop-holds : tie.Need-loop-holds Inv-loop μ-loop
 loop-holds c = search needs
 
-line-end-requires : tie.Need-line-end-requires Inv-loop μ-loop
-line-end-requires c κs = search needs
+sub-take-some : tie.Need-sub-take-some Inv-loop μ-loop
+sub-take-some c = search needs
 
-sub-take-piece : tie.Need-sub-take-piece Inv-loop μ-loop
-sub-take-piece c = search needs
+part-take-some-start : tie.Need-part-take-some-start Inv-loop μ-loop
+part-take-some-start c = search needs
 
-part-take-piece-start : tie.Need-part-take-piece-start Inv-loop μ-loop
-part-take-piece-start c = search needs
+part-take-some-end : tie.Need-part-take-some-end Inv-loop μ-loop
+part-take-some-end c = search needs
 
-part-take-piece-end : tie.Need-part-take-piece-end Inv-loop μ-loop
-part-take-piece-end c = search needs
+take-some-requires : tie.Need-take-some-requires Inv-loop μ-loop
+take-some-requires c κs = search needs
 
-take-piece-requires : tie.Need-take-piece-requires Inv-loop μ-loop
-take-piece-requires c κs = search needs
-
-after-requires : tie.Need-after-requires Inv-loop μ-loop
-after-requires c κs = search needs
+add-at : tie.Need-add-at Inv-loop μ-loop
+add-at c = search needs
 
 loop-less : tie.Need-loop-less Inv-loop μ-loop
 loop-less c = search needs
@@ -60,12 +56,11 @@ take-chunk-spec =
     Inv-loop
     μ-loop
     loop-holds
-    line-end-requires
-    sub-take-piece
-    part-take-piece-start
-    part-take-piece-end
-    take-piece-requires
-    after-requires
+    sub-take-some
+    part-take-some-start
+    part-take-some-end
+    take-some-requires
+    add-at
     loop-less
     loop-again
     same-length

@@ -1,0 +1,56 @@
+-- `watch::finish` writes no more than is lent. Assumes nothing.
+use mathlib.Core.Path.{subst}
+use native.Mathlib.Omega.{arith}
+use Rattle.watching.specs.Chunk.{FinishAnswers}
+use borrow.Author.Needs.{needs}
+use Rattle.watch.proofs.finish.Statement.{statement}
+use Rattle.watch.proofs.finish.Tie as tie
+
+finish-requires : tie.Need-finish-requires
+finish-requires c κs = search needs
+
+enum-known-n : tie.Need-enum-known-n
+enum-known-n c = search needs
+
+write-first-requires : tie.Need-write-first-requires
+write-first-requires c κs =
+    let n = c .before .before in
+    let f = n .before .before .before .before .before .before in
+    let w = subst (FinishAnswers _ _ _ _ _ _ _) (n .n .given .1) (f .finish .ensures) in
+    omega (arith, w .1 .2 .fits, f .finish .kept)
+
+enum-told : tie.Need-enum-told
+enum-told c = search needs
+
+same-length : tie.Need-same-length
+same-length c = search needs
+
+same-length-2 : tie.Need-same-length-2
+same-length-2 c = search needs
+
+returns : tie.Need-returns
+returns c = search needs
+
+same-length-3 : tie.Need-same-length-3
+same-length-3 c = search needs
+
+same-length-4 : tie.Need-same-length-4
+same-length-4 c = search needs
+
+returns-2 : tie.Need-returns-2
+returns-2 c = search needs
+
+pub finish-spec : {M : Type 1} → statement M
+finish-spec =
+    tie.close
+    (tie.spec
+    finish-requires
+    enum-known-n
+    write-first-requires
+    enum-told
+    same-length
+    same-length-2
+    returns
+    same-length-3
+    same-length-4
+    returns-2)
