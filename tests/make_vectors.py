@@ -102,4 +102,5 @@ def main():
     print('%d vectors, seed %d' % (CASES, SEED))
 
 
-main()
+if __name__ == "__main__":
+    main()

@@ -17,7 +17,7 @@ ghost use Rattle.file.specs.Check.{onEntry, countsIn, contentKept, broke
 ghost use Rattle.file.specs.Ready.{Held};
 
 // Checks what follows the count of a file.
-pub fn check_rest(count: usize, rest: &[u8]) -> FileCheck
+pub(crate) fn check_rest(count: usize, rest: &[u8]) -> FileCheck
     ensures { λ r. ⌜ r ≡ restCheck count (now (rest .entry)) ⌝ }
 {
     if count < 1 {
@@ -80,7 +80,7 @@ fn content_kept(before: &[u8], contents: &[u8], offset: usize) -> bool
 }
 
 // The offset that the first entry of contents gives.
-pub fn offset_of(contents: &[u8]) -> usize
+pub(crate) fn offset_of(contents: &[u8]) -> usize
     requires { ⌜ 12 ≤ length (now contents) ⌝ }
     ensures { λ r. ⌜ r ≡ valueAt 2 (now (contents .entry)) 8 ⌝ }
 {

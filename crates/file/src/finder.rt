@@ -11,7 +11,7 @@ ghost use Rattle.file.specs.Check.{checkOf};
 ghost use Rattle.file.specs.Lookup.{same, placed};
 
 // Where in a sound file the body with a name is.
-pub fn find(file: &[u8], name: &[u8]) -> Place
+pub(crate) fn find(file: &[u8], name: &[u8]) -> Place
     requires { ⌜ checkOf (now file) ≡ Sound ⌝ }
     ensures { λ r. ⌜ r ≡ placed (now (file .entry)) (now (name .entry)) ⌝ }
 {

@@ -5,7 +5,7 @@ ghost use lib.ListN.{length, drop};
 ghost use Rattle.file.specs.Contents.{nameByte, spaces, named, below};
 
 // Whether bytes are a name: at least one letter or digit, then padding.
-pub fn is_name(name: &[u8]) -> bool
+pub(crate) fn is_name(name: &[u8]) -> bool
     ensures { λ r. ⌜ r ≡ named (now (name .entry)) ⌝ }
 {
     if name.len() == 0 {
@@ -53,7 +53,7 @@ fn are_spaces(name: &[u8], from: usize) -> bool
 }
 
 // Whether one name stands strictly before another in byte order.
-pub fn is_below(before: &[u8], name: &[u8]) -> bool
+pub(crate) fn is_below(before: &[u8], name: &[u8]) -> bool
     ensures { λ r. ⌜ r ≡ below (now (before .entry)) (now (name .entry)) ⌝ }
 {
     let mut i: usize = 0;

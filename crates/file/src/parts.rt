@@ -16,7 +16,7 @@ ghost use Rattle.file.specs.Check.{entryKept, onEntry, brokenEntry, brok
 ghost use Rattle.file.specs.Ready.{Few, Small, Named, Whole};
 
 // Checks the names, the numbers of entries and the bodies that a writer is given.
-pub fn check_parts(names: &[u8], counts: &[u8], bodies: &[u8]) -> FileCheck
+pub(crate) fn check_parts(names: &[u8], counts: &[u8], bodies: &[u8]) -> FileCheck
     ensures { λ r. ⌜ r ≡ partsCheck (now (names .entry)) (now (counts .entry)) (now (bodies .entry)) ⌝ }
 {
     if counts.len() < 1 {
@@ -55,7 +55,7 @@ fn check_entries(names: &[u8], counts: &[u8]) -> FileCheck
 }
 
 // Whether a name stands after the one before it (no bytes before the first), with 1 to 63 entries.
-pub fn entry_kept(before: &[u8], name: &[u8], n: u8) -> bool
+pub(crate) fn entry_kept(before: &[u8], name: &[u8], n: u8) -> bool
     ensures { λ r. ⌜ r ≡ entryKept (now (before .entry)) (now (name .entry)) n ⌝ }
 {
     if !name::is_name(name) {
@@ -71,7 +71,7 @@ pub fn entry_kept(before: &[u8], name: &[u8], n: u8) -> bool
 }
 
 // Checks bodies that lie end to end: that they end where their numbers of entries say, and each of them.
-pub fn check_bodies(counts: &[u8], bodies: &[u8]) -> FileCheck
+pub(crate) fn check_bodies(counts: &[u8], bodies: &[u8]) -> FileCheck
     requires { ⌜ Small (now counts) ⌝ }
     ensures { λ r. ⌜ r ≡ bodiesCheck (now (counts .entry)) (now (bodies .entry)) ⌝ }
 {
@@ -96,7 +96,7 @@ fn all_bytes(counts: &[u8]) -> usize
 }
 
 // A byte as a length.
-pub fn wide(x: u8) -> usize
+pub(crate) fn wide(x: u8) -> usize
     ensures { λ r. ⌜ (r ≡ x) × (r < 256) ⌝ }
 {
     x as usize

@@ -9,7 +9,7 @@ ghost use Rattle.file.specs.Contents.{contentOf, contents, bodiesAt};
 ghost use Rattle.file.specs.Ready.{EntryReady, ContentsReady};
 
 // Writes the contents: an entry for each name and number of entries, each body beginning where the previous ends.
-pub fn write_contents(names: &[u8], counts: &[u8], part: &mut [u8])
+pub(crate) fn write_contents(names: &[u8], counts: &[u8], part: &mut [u8])
     requires { ⌜ ContentsReady (now names) (now counts) (now part) ⌝ }
     ensures { λ _. ⌜ now (part .exit) ≡ contents (now (names .entry)) (now (counts .entry)) (bodiesAt (length (now (counts .entry)))) ⌝ }
 {
@@ -44,7 +44,7 @@ fn write_entry(name: &[u8], offset: usize, n: u8, entry: &mut [u8])
 }
 
 // Copies bytes to a part that is as long.
-pub fn copy(bytes: &[u8], part: &mut [u8])
+pub(crate) fn copy(bytes: &[u8], part: &mut [u8])
     requires { ⌜ length (now part) ≡ length (now bytes) ⌝ }
     ensures { λ _. ⌜ now (part .exit) ≡ now (bytes .entry) ⌝ }
 {

@@ -1,7 +1,7 @@
 -- A stack of p in an array: what a letter and an operator do to it. Shared by the walks that sum a room and judge a form.
 -- Assumes nothing.
-use mathlib.Core.Path.{_≡_, refl, ap, subst, _∙_}
-use mathlib.Core.List.{List, [], _∷_}
+use mathlib.Core.Path.{_≡_, refl, ap, subst}
+use mathlib.Core.List.{List, _∷_}
 use Prim.Native.Nat.{ℕ, zero, suc, _+_, _-_, _≤_, _<_}
 use native.Mathlib.Omega.{arith}
 use lib.ListN.{getD, set, length, take, drop, length-take, length-drop}
@@ -11,7 +11,6 @@ use Rattle.body.specs.declared.Entry.{Entry}
 use Rattle.body.specs.declared.Entry.the-variants.{Letter, Pair}
 use Rattle.body.specs.Stack.{stack, stackBy}
 use Rattle.body.proofs.Stacks.{stack-pop2, stack-set, stack-set2}
-use Rattle.cell.specs.Cell.{possible}
 use Rattle.rules.specs.Limits.{mostEntries}
 use Rattle.watcher.proofs.Piles.{total, Piled, piled-low, piled-letter, piled-two}
 

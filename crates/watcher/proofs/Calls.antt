@@ -1,6 +1,6 @@
 -- A tick's promise, from what the code computes: the form judged, the next tick allowed, and the walk over the entries.
 -- Two states in form with the same words give the same answer and the same words, as the walk goes by the words alone. Assumes nothing.
-use Prim.Native.Nat.{ℕ, suc, _+_, _≤_, _<_}
+use Prim.Native.Nat.{ℕ, suc, _≤_, _<_}
 use mathlib.Core.Path.{_≡_, refl, sym, ap, _∙_}
 use mathlib.Core.Bool.{true, false}
 use mathlib.Core.List.{List, [], _∷_, _++_}

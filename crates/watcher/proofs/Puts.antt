@@ -2,15 +2,14 @@
 use mathlib.Core.Path.{_≡_, refl, sym, ap, subst, _∙_}
 use mathlib.Core.Logic.{_⊎_, inl, inr, ⊎-elim}
 use mathlib.Core.List.{List}
-use Prim.Native.Nat.{ℕ, _+_, _-_, _*_, _/_, _^_, _≤_, _<_}
+use Prim.Native.Nat.{ℕ, _+_, _-_, _/_, _^_, _≤_, _<_}
 use native.Mathlib.Decide.{ℕ-discrete, decLt}
 use native.Mathlib.Omega.{arith}
-use lib.ListN.{getD, set, length, length-set, drop}
+use lib.ListN.{getD, set, length, length-set}
 use lib.Seq.{ext-getD, getD-drop, getD-set-same, getD-set-other}
 use Rattle.rules.specs.Limits.{argumentBytes}
 use Rattle.body.specs.declared.Entry.{Entry}
 use Rattle.body.specs.declared.Entry.the-variants.{Letter, Pair, Within, Wrong}
-use Rattle.body.specs.Entry.{entryAt}
 use Rattle.body.proofs.Entries.{Fits}
 use Rattle.watcher.specs.Walk.{cellsNeeded, wordsNeeded, wordsOpened}
 use Rattle.watcher.specs.Form.{Narrow, Put, wordsOf, zeros}

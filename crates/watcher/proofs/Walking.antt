@@ -22,7 +22,7 @@ use Rattle.watcher.specs.State.{InForm}
 use Rattle.watcher.specs.Walk.{Value, Cells, entryIn, tickPair, letterAnswer, withinAnswer, tickM}
 use Rattle.watcher.specs.Walk.{formed, ticked, lastAnswer, answerOf, wordsAfter}
 use Rattle.watcher.proofs.Entries.{run-step}
-use Rattle.watcher.proofs.States.{count-word, next-word, state-long}
+use Rattle.watcher.proofs.States.{next-word, state-long}
 use Rattle.watcher.proofs.Judges.{formed-exactly}
 use Rattle.watcher.proofs.Runs.{Ready, startsOn, Small, Stands, Runs, runs-start, walk-start, turn-stands, turn-ready, turn-runs}
 use Rattle.watcher.proofs.Runs.{ready-pair, ready-within, stands-low, stands-few}

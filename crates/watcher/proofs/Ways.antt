@@ -1,6 +1,6 @@
 -- The ways that a tick goes, from what the code tests and calls. Assumes nothing.
-use mathlib.Core.Path.{_≡_, refl, sym, subst, _∙_}
-use mathlib.Core.Bool.{true, false}
+use mathlib.Core.Path.{_≡_, sym, subst, _∙_}
+use mathlib.Core.Bool.{true}
 use mathlib.Core.List.{List}
 use Prim.Native.Nat.{ℕ, suc, _-_, _≤_, _<_}
 use native.Mathlib.Omega.{arith}
@@ -8,7 +8,7 @@ use lib.ListN.{getD}
 use Rattle.rules.specs.Limits.{ticks}
 use Rattle.watcher.specs.declared.Ticking.the-variants.{Window, Nothing}
 use Rattle.watcher.specs.Answer.{IsTicked, TickAnswers}
-use Rattle.watcher.specs.Walk.{formed, answerOf, wordsAfter}
+use Rattle.watcher.specs.Walk.{formed, wordsAfter}
 use Rattle.watcher.specs.Step.{StepsDone}
 use Rattle.watcher.proofs.Calls.{walked-as-ticked}
 

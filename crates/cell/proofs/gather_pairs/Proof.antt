@@ -1,7 +1,7 @@
 -- `cell::gather_pairs` meets its contract. The loop's invariant: the pairs kept so far are those gathered for the starts from i on.
 -- Assumes nothing.
 use mathlib.Core.Path.{_≡_, refl, _∙_}
-use Prim.Native.Nat.{_+_, _-_, _≤_}
+use Prim.Native.Nat.{_+_, _≤_}
 use native.Mathlib.Omega.{arith}
 use lib.ListN.{length, drop}
 use Rattle.detector.specs.Choice.{gather}

@@ -1,7 +1,6 @@
 -- `mws::mws_file_check` meets its contract: the word of the check's answer. Assumes nothing.
-use mathlib.Core.Path.{refl, sym, ap, subst, _∙_}
+use mathlib.Core.Path.{sym, ap, _∙_}
 use Rattle.mws.specs.Status.{fileStatus}
-use native.Mathlib.Omega.{arith}
 use borrow.Author.Needs.{needs}
 use Rattle.mws.proofs.mws_file_check.Statement.{statement}
 use Rattle.mws.proofs.mws_file_check.Tie as tie

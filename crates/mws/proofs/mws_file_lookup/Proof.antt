@@ -1,5 +1,5 @@
 -- `mws::mws_file_lookup` meets its contract: the finding's place, length and word. Assumes nothing.
-use mathlib.Core.Path.{refl, sym, ap, subst, _∙_}
+use mathlib.Core.Path.{refl, sym, _∙_}
 use Rattle.refusal.proofs.Packs.{packed-small}
 use native.Mathlib.Omega.{arith}
 use borrow.Author.Needs.{needs}

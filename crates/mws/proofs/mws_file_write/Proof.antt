@@ -1,8 +1,7 @@
 -- `mws::mws_file_write` meets its contract: the call's own promise, and the word of its answer. Assumes nothing.
-use mathlib.Core.Path.{refl, sym, ap, subst, _∙_}
+use mathlib.Core.Path.{refl, subst}
 use Rattle.file.specs.declared.Writing.the-variants.{Written, Refused}
 use Rattle.file.specs.Write.{Wrote}
-use native.Mathlib.Omega.{arith}
 use borrow.Author.Needs.{needs}
 use Rattle.mws.proofs.mws_file_write.Statement.{statement}
 use Rattle.mws.proofs.mws_file_write.Tie as tie

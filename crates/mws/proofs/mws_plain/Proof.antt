@@ -1,8 +1,7 @@
 -- `mws::mws_plain` meets its contract: the call's own promise, and the word of its answer. Assumes nothing.
-use mathlib.Core.Path.{refl, sym, ap, subst, _∙_}
+use mathlib.Core.Path.{refl, subst}
 use Rattle.plain.specs.declared.Evaluation.the-variants.{Evaluated, Refused}
 use Rattle.plain.specs.Answer.{Answers}
-use native.Mathlib.Omega.{arith}
 use borrow.Author.Needs.{needs}
 use Rattle.mws.proofs.mws_plain.Statement.{statement}
 use Rattle.mws.proofs.mws_plain.Tie as tie

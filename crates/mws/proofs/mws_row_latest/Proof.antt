@@ -1,5 +1,5 @@
 -- `mws::mws_row_latest` meets its contract: the number of the latest start. Assumes nothing.
-use mathlib.Core.Path.{refl, sym, ap, subst, _∙_}
+use mathlib.Core.Path.{refl, subst}
 use Rattle.plain.specs.declared.Start.the-variants.{Nowhere, At}
 use Rattle.plain.specs.Row.{IsLatest}
 use native.Mathlib.Omega.{arith}

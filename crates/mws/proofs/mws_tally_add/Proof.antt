@@ -1,8 +1,7 @@
 -- `mws::mws_tally_add` meets its contract: the two words become those of the tally to keep. Assumes nothing.
-use mathlib.Core.Path.{refl, sym, ap, subst, _∙_}
+use mathlib.Core.Path.{ap}
 use Rattle.tally.specs.declared.Tally.{Tally}
 use lib.ListN.{set}
-use native.Mathlib.Omega.{arith}
 use borrow.Author.Needs.{needs}
 use Rattle.mws.proofs.mws_tally_add.Statement.{statement}
 use Rattle.mws.proofs.mws_tally_add.Tie as tie

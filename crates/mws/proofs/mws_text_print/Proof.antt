@@ -1,8 +1,7 @@
 -- `mws::mws_text_print` meets its contract: the call's own promise, and the word of its answer. Assumes nothing.
-use mathlib.Core.Path.{refl, sym, ap, subst, _∙_}
+use mathlib.Core.Path.{refl, subst}
 use Rattle.text.specs.declared.Printing.the-variants.{Printed, Refused}
 use Rattle.text.specs.Answer.{PrintingOf}
-use native.Mathlib.Omega.{arith}
 use borrow.Author.Needs.{needs}
 use Rattle.mws.proofs.mws_text_print.Statement.{statement}
 use Rattle.mws.proofs.mws_text_print.Tie as tie

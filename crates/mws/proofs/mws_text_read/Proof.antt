@@ -1,8 +1,7 @@
 -- `mws::mws_text_read` meets its contract: the call's own promise, and the word of its answer. Assumes nothing.
-use mathlib.Core.Path.{refl, sym, ap, subst, _∙_}
+use mathlib.Core.Path.{refl, subst}
 use Rattle.text.specs.declared.Reading.the-variants.{Read, Refused}
 use Rattle.text.specs.Answer.{ReadingOf}
-use native.Mathlib.Omega.{arith}
 use borrow.Author.Needs.{needs}
 use Rattle.mws.proofs.mws_text_read.Statement.{statement}
 use Rattle.mws.proofs.mws_text_read.Tie as tie

@@ -1,8 +1,7 @@
 -- `mws::mws_watch_feed` meets its contract: the call's own promise, and the word of its answer. Assumes nothing.
-use mathlib.Core.Path.{refl, sym, ap, subst, _∙_}
+use mathlib.Core.Path.{refl, subst}
 use Rattle.watcher.specs.declared.Feeding.the-variants.{Fed, Refused}
 use Rattle.watcher.specs.Feed.{FeedAnswers}
-use native.Mathlib.Omega.{arith}
 use borrow.Author.Needs.{needs}
 use Rattle.mws.proofs.mws_watch_feed.Statement.{statement}
 use Rattle.mws.proofs.mws_watch_feed.Tie as tie

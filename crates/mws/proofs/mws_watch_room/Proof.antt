@@ -1,8 +1,7 @@
 -- `mws::mws_watch_room` meets its contract: the call's own promise, and the word of its answer. Assumes nothing.
-use mathlib.Core.Path.{refl, sym, ap, subst, _∙_}
+use mathlib.Core.Path.{refl, subst}
 use Rattle.watcher.specs.declared.Needed.the-variants.{Words, Refused}
 use Rattle.watcher.specs.Answer.{RoomAnswers}
-use native.Mathlib.Omega.{arith}
 use borrow.Author.Needs.{needs}
 use Rattle.mws.proofs.mws_watch_room.Statement.{statement}
 use Rattle.mws.proofs.mws_watch_room.Tie as tie

@@ -1,5 +1,5 @@
 -- `mws::mws_watch_tick` meets its contract: the call's own promise, and the word of its answer; a start is at most the tick, so start + 1 fits. Assumes nothing.
-use mathlib.Core.Path.{refl, sym, ap, subst, _∙_}
+use mathlib.Core.Path.{refl, subst}
 use Rattle.watcher.specs.declared.Ticking.the-variants.{Window, Nothing, Refused}
 use Rattle.watcher.specs.Answer.{IsTicked, TickAnswers}
 use Rattle.detector.proofs.Form.{answer-le}

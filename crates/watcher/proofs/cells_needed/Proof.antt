@@ -1,18 +1,17 @@
 -- `watcher::cells_needed` meets its contract: the invariant is `Rooming` with the stack of p in an array, the measure the entries left.
 -- Assumes nothing.
-use mathlib.Core.Path.{_≡_, refl, sym, subst, _∙_}
-use mathlib.Core.List.{List, []}
-use Prim.Native.Nat.{ℕ, _+_, _-_, _/_, _≤_}
-use lib.ListN.{getD, set, length, length-set}
+use mathlib.Core.Path.{_≡_, refl, sym, _∙_}
+use Prim.Native.Nat.{_-_, _≤_}
+use lib.ListN.{length, length-set}
 use native.Mathlib.Omega.{arith}
 use borrow.Author.Needs.{needs}
 use Rattle.rules.specs.Limits.{argumentBytes}
-use Rattle.body.specs.declared.Entry.the-variants.{Letter, Pair, Within, Wrong}
+use Rattle.body.specs.declared.Entry.the-variants.{Letter, Pair}
 use Rattle.body.specs.Entry.{entryAt}
 use Rattle.body.specs.Stack.{stack, stackBy}
 use Rattle.body.proofs.Walk.{sound-start}
 use Rattle.watcher.proofs.Piles.{piled-wrong}
-use Rattle.watcher.proofs.Arrays.{letter-fits, letter-stack, pair-two, pair-stack, pair-small, pair-deep, pair-set}
+use Rattle.watcher.proofs.Arrays.{letter-fits, letter-stack, pair-two, pair-stack, pair-small, pair-set}
 use Rattle.watcher.proofs.Rooming.{Rooming, rooming-start, rooming-end, rooming-letter, rooming-within, rooming-pair}
 use Rattle.watcher.proofs.cells_needed.Statement.{statement}
 use Rattle.watcher.proofs.cells_needed.Tie as tie

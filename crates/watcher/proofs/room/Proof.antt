@@ -1,5 +1,5 @@
 -- `watcher::room` meets its contract: the walk over a sound body sums its room. Assumes nothing.
-use mathlib.Core.Path.{_≡_, sym, ap, subst, _∙_}
+use mathlib.Core.Path.{_≡_, sym, subst, _∙_}
 use Prim.Native.Nat.{ℕ, _+_, _/_}
 use lib.ListN.{length}
 use borrow.Author.Needs.{needs}

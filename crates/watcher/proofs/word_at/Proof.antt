@@ -6,7 +6,6 @@ use Rattle.body.proofs.Entries.{read-fits}
 use Rattle.watcher.specs.State.{wordOf}
 use Rattle.watcher.specs.Form.{Narrow}
 use Rattle.watcher.proofs.Puts.{fits-narrow}
-use native.Mathlib.Omega.{arith}
 use borrow.Author.Needs.{needs}
 use Rattle.watcher.proofs.word_at.Statement.{statement}
 use Rattle.watcher.proofs.word_at.Tie as tie

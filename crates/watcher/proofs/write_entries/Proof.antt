@@ -1,9 +1,7 @@
 -- `watcher::write_entries` meets its contract: i of the words are put. The measure is the words left. Assumes nothing.
-use mathlib.Core.Path.{refl}
 use Prim.Native.Nat.{_-_}
-use Rattle.watcher.specs.Form.{wordsOf, zeros}
+use Rattle.watcher.specs.Form.{wordsOf}
 use Rattle.watcher.proofs.Puts.{Putting, putting-none, putting-more, putting-all}
-use borrow.Author.Needs.{needs}
 use native.Mathlib.Omega.{arith}
 use Rattle.watcher.proofs.write_entries.Statement.{statement}
 use Rattle.watcher.proofs.write_entries.Tie as tie

@@ -1,6 +1,6 @@
 -- `watcher::form::judged_end` meets its contract: the invariant is `Judging` with the stack of p in an array, the measure the entries left.
 -- Assumes nothing.
-use mathlib.Core.Path.{_≡_, refl, sym, ap, subst, _∙_}
+use mathlib.Core.Path.{_≡_, refl, sym, subst, _∙_}
 use mathlib.Core.List.{[]}
 use Prim.Native.Nat.{ℕ, _+_, _-_, _≤_, _<_}
 use lib.ListN.{getD, length, length-set}

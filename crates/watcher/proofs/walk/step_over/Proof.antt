@@ -1,7 +1,7 @@
 -- `watcher::walk::step_over` meets its contract. The loop's invariant: the words, the place of the next cell and the stack in the arrays lead to the
 -- end of the walk over the words as they were. The measure is the number of entries left. Assumes nothing.
 use Prim.Native.Nat.{_+_, _-_, _<_}
-use mathlib.Core.Path.{_≡_, refl, sym, _∙_}
+use mathlib.Core.Path.{_≡_, sym, _∙_}
 use native.Mathlib.Omega.{arith}
 use lib.ListN.{length}
 use borrow.Author.Needs.{needs}
