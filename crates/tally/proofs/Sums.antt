@@ -1,16 +1,15 @@
 -- Windows added are counted and summed. Assumes nothing.
 use mathlib.Core.Path.{_≡_, ap}
 use mathlib.Core.Bool.{Bool, true, false, cond}
-use mathlib.Core.List.{List, [], _∷_}
+use mathlib.Core.List.{_∷_}
 use Prim.Native.Nat.{ℕ, _+_, _-_}
 use native.Mathlib.Omega.{arith}
 use lib.ListN.{length}
 use Rattle.refusal.specs.declared.Refusal.the-variants.{Range, Full}
 use Rattle.tally.specs.declared.Tally.{Tally}
-use Rattle.tally.specs.declared.Adding.{Adding}
 use Rattle.tally.specs.declared.Adding.the-variants.{Added, Refused}
 use Rattle.tally.specs.Tallied.{outside, more, over, addedTo}
-use Rattle.tally.specs.Claim.{span, Adds, none, one, Sums}
+use Rattle.tally.specs.Claim.{span, none, one, Sums}
 
 -- what is added is the window counted
 picked : (a b : Bool) (t u : Tally) → cond a (Refused Range) (cond b (Refused Full) (Added t)) ≡ Added u → t ≡ u
