@@ -6,23 +6,20 @@ use mathlib.Core.List.{List}
 use mathlib.Core.Option.{Option, none, some}
 use native.Mathlib.Nat.{sub-zero}
 use native.Mathlib.Omega.{arith}
-use lib.Dec.{leb, eqb}
+use lib.Dec.{leb}
 use lib.ListN.{length}
-use borrow.Author.Tests.{leb-true, eqb-true}
+use borrow.Author.Tests.{leb-true}
 use Rattle.rules.specs.declared.Op.{Op}
 use Rattle.rules.specs.Limits.{mostEntries}
-use Rattle.rules.specs.Pattern.{Pattern}
 use Rattle.body.specs.declared.Entry.{Entry}
 use Rattle.body.specs.declared.Entry.the-variants.{Letter, Pair, Within, Wrong}
 use Rattle.body.specs.declared.Depth.the-variants.{Lacks, To}
 use Rattle.body.specs.declared.BodyCheck.the-variants.{Sound}
 use Rattle.body.specs.Entry.{entryAt, entriesBy, entries}
-use Rattle.body.specs.Postfix.{postfix}
 use Rattle.body.specs.Check.{onDepth, depthOf, scan, checkOf}
 use Rattle.body.specs.Machine.{Machine, step, run}
-use Rattle.body.proofs.Trees.{scan-tree}
 use Rattle.body.proofs.Sizes.{sized-whole, sound-parts}
-use Rattle.body.proofs.Scan.{left-suc, left-zero, scan-turn, scan-end}
+use Rattle.body.proofs.Scan.{left-suc, left-zero, scan-turn}
 
 -- one turn of a machine, and its end
 pub run-turn : (M : Machine) (f : ℕ → Entry) (n i : ℕ) (st : List (M .X)) (g : M .G) → i < n
@@ -44,14 +41,6 @@ not-none i p = let z : _≡_ {A = ℕ} 0 1 = cc in absurd (omega arith)
 cond-rest : (t : Bool) (e i : ℕ) (f : ℕ → Option ℕ) → onDepth (cond t (To e) Lacks) (some i) f ≡ none → (t ≡ true) × (f e ≡ none)
 cond-rest true e i f p = (refl, p)
 cond-rest false e i f p = not-none i p
-
-cond-end : (t : Bool) (i : ℕ) → cond t none (some i) ≡ none → t ≡ true
-cond-end true i p = refl
-cond-end false i p = not-none i p
-
--- exactly one tree is left at the end
-pub rest-end : (f : ℕ → Entry) (n i d : ℕ) → n ≤ i → Rest f n i d → d ≡ 1
-rest-end f n i d h r = eqb-true d 1 (cond-end (eqb d 1) i (sym (scan-end f n i d h) ∙ r))
 
 module _ (f : ℕ → Entry) (n i d : ℕ) (h : i < n) (r : Rest f n i d) where
   turned : (s : Entry) → f i ≡ s → onDepth (depthOf s d) (some i) (λ e. scan (entriesBy f (i + 1) (n - (i + 1))) (i + 1) e) ≡ none
@@ -76,10 +65,6 @@ module _ (f : ℕ → Entry) (n i d : ℕ) (h : i < n) (r : Rest f n i d) where
   pub rest-wrong : f i ≡ Wrong → ⊥
   unfolding depthOf
   rest-wrong e = not-none i (turned Wrong e)
-
--- entries that break no rule are those of a tree
-pub rest-tree : (f : ℕ → Entry) (n : ℕ) → Rest f n 0 0 → (e : Pattern) × (entriesBy f 0 n ≡ postfix e)
-rest-tree f n r = scan-tree (entriesBy f 0 n) (rw (sub-zero n) at r)
 
 -- where the walk over a sound body begins
 pub record Start (width : ℕ) (b : List ℕ) : Type 0 where

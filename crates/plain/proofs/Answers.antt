@@ -1,8 +1,7 @@
 -- The ways that `evaluate` goes: each gives the promise of its case. Assumes nothing.
-use mathlib.Core.Path.{_≡_, refl, sym, _∙_}
+use mathlib.Core.Path.{_≡_, refl}
 use mathlib.Core.List.{List}
 use Prim.Native.Nat.{ℕ, _≤_, _<_}
-use lib.Dec.{ltb}
 use lib.ListN.{length}
 use borrow.Author.Tests.{lt-ltb, le-ltb}
 use Rattle.rules.specs.Limits.{argumentBytes, mostWords}
@@ -10,7 +9,6 @@ use Rattle.refusal.specs.declared.Refusal.{Refusal}
 use Rattle.refusal.specs.declared.Refusal.the-variants.{Room, Record}
 use Rattle.body.specs.declared.BodyCheck.the-variants as Checked
 use Rattle.body.specs.Check.{checkOf}
-use Rattle.plain.specs.declared.Evaluation.{Evaluation}
 use Rattle.plain.specs.declared.Evaluation.the-variants.{Evaluated, Refused}
 use Rattle.plain.specs.Answer.{rowsNeeded, evaluationOf, RowsAfter, Answers}
 

@@ -1,7 +1,7 @@
 -- The loop over a body's entries: after i entries the rows of each show the instances of the pattern that it ends, and the stack has
 -- the place of each tree. Assumes nothing.
 use mathlib.Core.Path.{_≡_, refl, sym, ap, _∙_, subst}
-use mathlib.Core.Logic.{inl, inr, _↔_}
+use mathlib.Core.Logic.{inl, inr}
 use mathlib.Core.List.{List, [], _∷_, _++_, append-assoc, append-nil}
 use Prim.Native.Nat.{ℕ, _+_, _-_, _*_, _/_, _≤_, _<_}
 use native.Mathlib.Omega.{arith}
@@ -14,20 +14,18 @@ use Rattle.rules.specs.Pattern.{Pattern, event, pair, within}
 use Rattle.rules.specs.Instances.{Instances, Occurs, Rule, Short, Has}
 use Rattle.body.specs.declared.Entry.{Entry}
 use Rattle.body.specs.declared.Entry.the-variants.{Letter, Pair, Within, Wrong}
-use Rattle.body.specs.declared.BodyCheck.the-variants.{Sound}
 use Rattle.body.specs.Entry.{entriesBy, entryAt, entries}
-use Rattle.body.specs.Check.{checkOf}
 use Rattle.body.specs.Stack.{stack, stackBy}
 use Rattle.body.specs.Claim.{BodyOf}
 use Rattle.body.proofs.Stacks.{stack-pop, stack-pop2, stack-set, stack-set2}
-use Rattle.body.proofs.Walk.{Rest, rest-letter, rest-pair, rest-within, rest-wrong, sound-start}
+use Rattle.body.proofs.Walk.{Rest, rest-letter, rest-pair, rest-within, rest-wrong}
 use Rattle.body.proofs.Scan.{left-zero}
 use Rattle.body.proofs.Bodies.{entries-encode}
 use Rattle.plain.specs.Rows.{Shown, rowsOf, worded, parts, Written}
 use Rattle.plain.specs.Fill.{Filled}
 use Rattle.plain.proofs.Fills.{same-rows}
 use Rattle.plain.proofs.Steps.{Same, letter-inside, filled-same, filled-rule, filled-short}
-use Rattle.plain.proofs.Ends.{ends, ends-letter, ends-pair, ends-within, ends-whole, Stands, stands-more, One, stands-one}
+use Rattle.plain.proofs.Ends.{ends, ends-letter, ends-pair, ends-within, ends-whole, Stands, stands-more, stands-one}
 
 -- entry i of the body b
 abbrev pub entryOfBody : List ℕ → ℕ → Entry

@@ -1,6 +1,5 @@
 -- The masks of the starts seen so far, made in one pass over the rows; and each operator's row from them. Assumes nothing.
-use mathlib.Core.Path.{_≡_, refl, _∙_}
-use mathlib.Core.Logic.{_⊎_, inl, inr}
+use mathlib.Core.Path.{_≡_, _∙_}
 use mathlib.Core.List.{List}
 use Prim.Native.Nat.{ℕ, _+_, _≤_, _<_}
 use native.Mathlib.Omega.{arith}
@@ -8,7 +7,6 @@ use native.Mathlib.Decide.{ℕ-discrete}
 use lib.Bits.{bitOr}
 use lib.ListN.{getD, set, length, length-set}
 use lib.Seq.{getD-set-same, getD-set-other}
-use Rattle.rules.specs.Bits.{On}
 use Rattle.plain.specs.Row.{Exactly}
 use Rattle.plain.specs.Fill.{Before, Seen}
 use Rattle.plain.proofs.Sets.{before-none, before-more}

@@ -1,19 +1,18 @@
 -- What each row function computes, as a statement on its bits. Assumes nothing.
-use mathlib.Core.Path.{_≡_, refl, sym, ap, _∙_, subst}
+use mathlib.Core.Path.{_≡_, sym, ap, _∙_, subst}
 use mathlib.Core.Logic.{_⊎_, inl, inr, ⊎-elim, _↔_}
 use mathlib.Core.List.{List}
-use Prim.Native.Nat.{ℕ, _+_, _-_, _*_, _/_, _%_, _^_, _≤_, _<_, min, max}
+use Prim.Native.Nat.{ℕ, _+_, _-_, _*_, _/_, _%_, _^_, _≤_, _<_, min}
 use native.Mathlib.Nat.{one-mul, mod-eq-of-lt, lt-of-le-of-lt, div-mul-le-self}
 use native.Mathlib.Omega.{arith}
 use native.Mathlib.Decide.{decLt, decLe, ℕ-discrete}
 use lib.Bits.{bitAnd, bitOr}
 use lib.ListN.{getD, length, List·getD-eq-default}
 use lib.Pow.{shl-exact}
-use Rattle.plain.specs.declared.Start.{Start}
 use Rattle.plain.specs.declared.Start.the-variants.{Nowhere, At}
-use Rattle.rules.specs.declared.Op.the-variants.{Both, Without, Chain}
+use Rattle.rules.specs.declared.Op.the-variants.{Both, Without}
 use Rattle.rules.specs.Bits.{bit, On}
-use Rattle.rules.specs.Instances.{Rule, Short}
+use Rattle.rules.specs.Instances.{Rule}
 use Rattle.plain.specs.Rows.{Shown}
 use Rattle.plain.specs.Row.{Exactly, IsLatest}
 use Rattle.plain.specs.Fill.{Before, Lesser}

@@ -1,14 +1,12 @@
 -- The claims of the plain evaluator: demand 2, that no second outcome meets the promises, and the agreement with the detector.
 -- Assumes nothing.
 use mathlib.Core.Path.{_≡_, refl, sym, ap, _∙_, subst}
-use mathlib.Core.Logic.{inl, inr}
 use mathlib.Core.List.{List, [], _∷_, _++_, append-assoc}
-use Prim.Native.Nat.{ℕ, zero, suc, pred, _+_, _*_, _/_, _%_, _^_, _≤_, _<_}
+use Prim.Native.Nat.{ℕ, zero, suc, pred, _+_, _*_, _/_, _%_, _^_, _<_}
 use native.Mathlib.Decide.{decLt, ℕ-discrete}
 use native.Mathlib.Omega.{arith}
 use lib.ListN.{getD, length, length-append}
 use lib.Seq.{ext-getD, getD-at}
-use Rattle.rules.specs.declared.Op.{Op}
 use Rattle.rules.specs.Bits.{bit, On}
 use Rattle.rules.specs.Limits.{argumentBytes}
 use Rattle.rules.specs.Pattern.{Pattern, event, pair, within, size}
@@ -22,18 +20,14 @@ use Rattle.detector.specs.Run.{run}
 use Rattle.detector.proofs.Theorem.{always}
 use Rattle.body.specs.declared.BodyCheck.{BodyCheck}
 use Rattle.body.specs.declared.BodyCheck.the-variants as Checked
-use Rattle.body.specs.Bytes.{Bytes}
 use Rattle.body.specs.Check.{checkOf}
-use Rattle.body.specs.Claim.{BodyOf}
 use Rattle.body.proofs.Bodies.{sound-pattern}
 use Rattle.body.proofs.Trees.{size-pos}
-use Rattle.plain.specs.declared.Start.{Start}
 use Rattle.plain.specs.declared.Start.the-variants.{Nowhere, At}
 use Rattle.plain.specs.declared.Evaluation.{Evaluation}
 use Rattle.plain.specs.declared.Evaluation.the-variants.{Evaluated, Refused}
-use Rattle.plain.specs.Row.{Exactly, IsLatest}
-use Rattle.plain.specs.Rows.{Shown, rowsOf, worded, parts, Written}
-use Rattle.plain.specs.Answer.{evaluationOf, ifSound, RowsAfter, Answers}
+use Rattle.plain.specs.Rows.{rowsOf, worded, parts, Written}
+use Rattle.plain.specs.Answer.{evaluationOf, ifSound, Answers}
 use Rattle.plain.specs.Claim.{ShownExactly, Words, OneAnswer, OneStart, startNumber, LatestOfRow, historyFrom, AgreesWithDetector}
 use Rattle.plain.proofs.Fills.{row-at}
 use Rattle.plain.proofs.Sets.{latest-le}

@@ -1,7 +1,7 @@
 -- The word for C gives number, place and entry back, and no refusal has the number 0, which stands for an accepted call.
 -- Assumes nothing.
 use mathlib.Core.Path.{_≡_}
-use Prim.Native.Nat.{ℕ, _/_, _%_, _^_, _≤_, _<_}
+use Prim.Native.Nat.{_/_, _%_, _^_, _≤_, _<_}
 use native.Mathlib.Omega.{arith}
 use Rattle.refusal.specs.declared.Refusal.{Refusal}
 use Rattle.refusal.specs.declared.Refusal.the-variants.{Long, Syntax, Many, Count, Entry, Size, Body, Room, State, Range, Late, Record, Full, Line, Absent}

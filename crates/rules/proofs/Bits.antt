@@ -1,18 +1,18 @@
 -- The laws of bits: of |, &, shifts and masks; equality by bits; leading zeros; ones; the test of one bit. Assumes nothing.
-use mathlib.Core.Path.{_≡_, refl, sym, ap, ap₂, _∙_, subst}
-use mathlib.Core.Logic.{_⊎_, inl, inr, ⊎-elim, _↔_}
+use mathlib.Core.Path.{_≡_, refl, sym, ap, _∙_, subst}
+use mathlib.Core.Logic.{_↔_}
 use Prim.Native.Nat.{ℕ, zero, suc, _+_, _-_, _*_, _/_, _%_, _^_, _≤_, _<_, min, max}
-use native.Mathlib.Nat.{mod-lt, le-of-suc-le-suc, max-le, add-comm, add-zero, pow-suc, mul-assoc, div-eq-of-lt, mul-mod-left, mod-eq-of-lt, lt-of-lt-of-le, one-mul, div-one, div-eq-of-lt-le, add-assoc, add-left-comm}
+use native.Mathlib.Nat.{mod-lt, add-comm, add-zero, pow-suc, mul-assoc, div-eq-of-lt, mul-mod-left, lt-of-lt-of-le, one-mul, div-one, div-eq-of-lt-le}
 use native.Mathlib.Omega.{arith}
-use native.Mathlib.Decide.{decLt, decLe, ℕ-discrete}
+use native.Mathlib.Decide.{decLt}
 use native.Mathlib.Numerals.{add-one}
-use lib.Pow.{pow-pos, pow-add, pow-mono, shr-shr, shr-lt, shl-shr, field, mod-mod-pow, high, ones-split, ones-lt, pow-lt}
-use lib.Arith.{digits-mod, digits-div, lt-one}
+use lib.Pow.{pow-add, pow-mono, shr-shr, shr-lt, shl-shr, field, mod-mod-pow, high, ones-split, ones-lt, pow-lt}
+use lib.Arith.{digits-mod, lt-one}
 use lib.Bits.{bitAnd, bitOr, and-shr, or-shr, and-step, or-step, and-mask}
 use lib.Dec.{eqb}
 use mathlib.Core.Bool.{Bool, true, false}
 use borrow.Author.Tests.{eqb-true, eq-eqb}
-use lib.Count.{ones, leadingZeros, ones-step, leading-top, leading-of-zero}
+use lib.Count.{ones, leadingZeros, ones-step, leading-top}
 use Rattle.rules.specs.Bits.{bit, On, onesBelow}
 
 half-lt : {n : ℕ} (k : ℕ) → n < 2 ^ suc k → n / 2 < 2 ^ k

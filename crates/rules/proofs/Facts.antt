@@ -1,8 +1,8 @@
 -- What holds of every instance: it starts no later than it ends, some event occurs at its end, and it depends on the record only up
 -- to its end; and only one answer is the latest. Assumes nothing.
-use mathlib.Core.Path.{_≡_, refl, sym, ap, _∙_}
+use mathlib.Core.Path.{_≡_, sym, ap, _∙_}
 use mathlib.Core.Logic.{inl, inr}
-use Prim.Native.Nat.{ℕ, suc, _^_, _≤_, _<_, pred}
+use Prim.Native.Nat.{ℕ, _^_, _≤_, _<_, pred}
 use native.Mathlib.Decide.{decLe, decLt}
 use native.Mathlib.Nat.{zero-div}
 use native.Mathlib.Omega.{arith}

@@ -6,7 +6,6 @@ use lib.ListN.{length}
 use Rattle.rules.specs.Instances.{Rule}
 use Rattle.plain.specs.Rows.{Shown, rowsOf}
 use Rattle.plain.proofs.Fills.{Made, made-none, made-more, made-kept, filled, part, part-masked}
-use borrow.Author.Needs.{needs}
 use native.Mathlib.Omega.{arith}
 use Rattle.plain.proofs.fill_masked.Statement.{statement}
 use Rattle.plain.proofs.fill_masked.Tie as tie

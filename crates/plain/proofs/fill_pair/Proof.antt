@@ -1,6 +1,5 @@
 -- `plain::fill_pair` meets its contract: the masks of both operands are made, and the rows are filled from them. Assumes nothing.
 use Rattle.plain.proofs.Fills.{part}
-use native.Mathlib.Omega.{arith}
 use borrow.Author.Needs.{needs}
 use Rattle.plain.proofs.fill_pair.Statement.{statement}
 use Rattle.plain.proofs.fill_pair.Tie as tie

@@ -1,10 +1,8 @@
 -- `plain::fill_rows` meets its contract: the invariant is `Filling`, the measure the entries left. Assumes nothing.
 use mathlib.Core.Path.{_≡_, refl, sym, _∙_}
-use Prim.Native.Nat.{ℕ, _-_, _+_, _*_, _/_, _≤_, _<_}
-use lib.ListN.{getD, length}
-use Rattle.rules.specs.declared.Op.{Op}
+use Prim.Native.Nat.{_-_, _<_}
 use Rattle.rules.specs.Limits.{argumentBytes}
-use Rattle.body.specs.declared.Entry.the-variants.{Letter, Pair, Within, Wrong}
+use Rattle.body.specs.declared.Entry.the-variants.{Letter, Pair, Within}
 use Rattle.body.proofs.Walk.{sound-start}
 use Rattle.plain.proofs.Loops.{Filling, entryOfBody, filling-none, filling-letter, filling-pair, filling-within, filling-all}
 use Rattle.plain.proofs.Loops.{pair-places, within-place, never-wrong}

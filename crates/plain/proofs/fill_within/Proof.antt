@@ -6,7 +6,6 @@ use lib.ListN.{getD}
 use Rattle.rules.specs.Instances.{Short}
 use Rattle.plain.specs.Rows.{Shown, rowsOf}
 use Rattle.plain.proofs.Fills.{Made, made-none, made-more, made-kept, row-at, filled}
-use borrow.Author.Needs.{needs}
 use native.Mathlib.Omega.{arith}
 use Rattle.plain.proofs.fill_within.Statement.{statement}
 use Rattle.plain.proofs.fill_within.Tie as tie

@@ -1,7 +1,6 @@
 -- `plain::see` meets its contract: after i rows the masks up to place i are made. The measure is the rows left. Assumes nothing.
 use Prim.Native.Nat.{_-_}
 use Rattle.plain.proofs.Masks.{Seeing, seeing-none, seeing-more, seeing-all}
-use borrow.Author.Needs.{needs}
 use native.Mathlib.Omega.{arith}
 use Rattle.plain.proofs.see.Statement.{statement}
 use Rattle.plain.proofs.see.Tie as tie

@@ -20,7 +20,9 @@ add-long c = search needs
 
 returns-3 : tie.Need-returns-3
 unfolding addedTo
-returns-3 c = simp (le-ltb _ _ (c .before .before .before .if1 .left), le-ltb _ _ (c .before .before .if2 .left), le-leb (2 ^ 64) (c .before .before .before .before .args .tally .windows + 1) (omega arith))
+returns-3 c =
+    let e2 = c .before .before in
+    simp (le-ltb _ _ (e2 .before .if1 .left), le-ltb _ _ (e2 .if2 .left), le-leb (2 ^ 64) (e2 .before .before .args .tally .windows + 1) (omega arith))
 
 sub-if4 : tie.Need-sub-if4
 sub-if4 c = search needs
@@ -31,7 +33,12 @@ returns-4 c =
     let e2 = c .before .before .before .before in
     let a = e2 .before .before .args in
     let w : a .tally .windows + 1 < 2 ^ 64 = omega arith in
-    simp (le-ltb _ _ (e2 .before .if1 .left), le-ltb _ _ (e2 .if2 .left), lt-leb (2 ^ 64) (a .tally .windows + 1) w, le-leb (2 ^ 64) (a .tally .ticks + (a .end - a .start + 1)) (omega arith))
+    simp (
+      le-ltb _ _ (e2 .before .if1 .left),
+      le-ltb _ _ (e2 .if2 .left),
+      lt-leb (2 ^ 64) (a .tally .windows + 1) w,
+      le-leb (2 ^ 64) (a .tally .ticks + (a .end - a .start + 1)) (omega arith),
+    )
 
 add-t8 : tie.Need-add-t8
 add-t8 c = search needs
@@ -45,7 +52,12 @@ returns-5 c =
     let e2 = c .before .before .before .before .before .before in
     let a = e2 .before .before .args in
     let w : a .tally .windows + 1 < 2 ^ 64 = omega arith in
-    simp (le-ltb _ _ (e2 .before .if1 .left), le-ltb _ _ (e2 .if2 .left), lt-leb (2 ^ 64) (a .tally .windows + 1) w, lt-leb (2 ^ 64) (a .tally .ticks + (a .end - a .start + 1)) (omega arith))
+    simp (
+      le-ltb _ _ (e2 .before .if1 .left),
+      le-ltb _ _ (e2 .if2 .left),
+      lt-leb (2 ^ 64) (a .tally .windows + 1) w,
+      lt-leb (2 ^ 64) (a .tally .ticks + (a .end - a .start + 1)) (omega arith),
+    )
 
 pub added-spec : {M : Type 1} → statement M
 added-spec =
