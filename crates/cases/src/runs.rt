@@ -1,6 +1,9 @@
 // The watch program's lines at the edges: what is written for each.
 use crate::show;
 use libc::STDOUT_FILENO;
+use watching::Chunked;
+use watching::Chunking;
+use watching::Finishing;
 use watching::Run;
 
 pub fn run() {
@@ -50,33 +53,55 @@ fn late() {
     let third = taken(second, b"6 P", &mut state);
     let fourth = taken(third, b"6 P", &mut state);
     let fifth = taken(fourth, b"7 P", &mut state);
-    finished(fifth);
+    finished(fifth, &mut state);
 }
 
 fn one(name: &[u8], first: &[u8]) {
     let mut state = [0u64; 64];
     io::write_all(STDOUT_FILENO, name);
-    finished(taken(watching::start(), first, &mut state));
+    let begun = taken(watching::start(), first, &mut state);
+    finished(begun, &mut state);
 }
 
 fn two(name: &[u8], second: &[u8]) {
     let mut state = [0u64; 64];
     io::write_all(STDOUT_FILENO, name);
     let begun = taken(watching::start(), b"S", &mut state);
-    finished(taken(begun, second, &mut state));
+    let stepped = taken(begun, second, &mut state);
+    finished(stepped, &mut state);
 }
 
-// Takes a line, and writes what is to be said.
+// Takes a line, held first and then ended by a chunk of its own.
 fn taken(run: Run, line: &[u8], state: &mut [u64]) -> Run {
+    let mut part = [0u8; 1025];
+    let begun = chunked(run, 0, line, &mut part, state);
+    let later = begun.run;
+    let ended = chunked(later, begun.held, b"\n", &mut part, state);
+    ended.run
+}
+
+// Takes a chunk, and writes what is to be said.
+fn chunked(run: Run, held: usize, chunk: &[u8], part: &mut [u8], state: &mut [u64]) -> Chunked {
     let mut out = [0u8; 60];
-    let later = watching::take_line(run, line, state, &mut out);
-    show::first(&out, later.written);
-    later.run
+    match watching::take_chunk(run, held, chunk, part, state, &mut out) {
+        Chunking::Taken(c) => {
+            show::first(&out, c.written);
+            c
+        }
+        Chunking::Refused(_) => Chunked {
+            run: run,
+            held: 0,
+            used: 0,
+            written: 0,
+        },
+    }
 }
 
 // Writes the tally, if no refusal ended the run.
-fn finished(run: Run) {
-    let mut out = [0u8; 60];
-    let bytes = watching::finish(run, &mut out);
-    show::first(&out, bytes);
+fn finished(run: Run, state: &mut [u64]) {
+    let mut out = [0u8; 120];
+    match watching::finish(run, 0, b"", state, &mut out) {
+        Finishing::Finished(n) => show::first(&out, n),
+        Finishing::Refused(_) => {}
+    }
 }
