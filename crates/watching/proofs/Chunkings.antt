@@ -1,13 +1,12 @@
 -- One lemma for each way out of taking a chunk, and of finishing. Assumes nothing.
-use Prim.Native.Nat.{ℕ, _+_, _-_, _<_, _≤_, min}
+use Prim.Native.Nat.{ℕ, _-_, _<_, _≤_, min}
 use mathlib.Core.Path.{_≡_, refl, sym, ap, _∙_}
 use mathlib.Core.List.{List, [], _∷_, _++_, append-nil}
 use native.Mathlib.Omega.{arith}
-use lib.ListN.{length, take, drop, length-take, length-drop, take-append-drop}
+use lib.ListN.{length, take, drop, length-drop, take-append-drop}
 use lib.Seq.{length-take-le}
 use borrow.Author.Tests.{eq-eqb, ne-eqb}
 use Rattle.line.specs.Lines.{mostWritten}
-use Rattle.line.specs.Answer.{IsWritten}
 use Rattle.watching.specs.declared.Run.{Run}
 use Rattle.watching.specs.declared.Taken.{Taken}
 use Rattle.watching.specs.declared.Chunked.{Chunked}

@@ -1,7 +1,7 @@
 -- The calls that take an input's chunks, and the one that ends it, print what its lines print: each call holds what the one before it left.
 -- Assumes nothing.
-use Prim.Native.Nat.{ℕ, _+_, _-_, _≤_, min}
-use mathlib.Core.Path.{_≡_, refl, sym, ap, subst, _∙_}
+use Prim.Native.Nat.{ℕ, _≤_, min}
+use mathlib.Core.Path.{_≡_, refl, sym, ap, _∙_}
 use mathlib.Core.List.{List, [], _∷_, _++_}
 use native.Mathlib.Omega.{arith}
 use lib.ListN.{length, take, drop, length-take, length-append}
@@ -9,7 +9,7 @@ use lib.Seq.{take-at, drop-at}
 use Rattle.line.specs.Answer.{IsWritten}
 use Rattle.watching.specs.declared.Run.{Run}
 use Rattle.watching.specs.declared.Chunked.{Chunked}
-use Rattle.watching.specs.Chunk.{mostHeld, hold, heldIn, Bites, IsChunked, Given}
+use Rattle.watching.specs.Chunk.{mostHeld, heldIn, Bites, IsChunked, Given}
 use Rattle.watching.specs.Chunk.Bites.{all, full, byte, line}
 use Rattle.watching.specs.Chunk.Given.{none, more}
 use Rattle.watching.specs.Claim.{InputPrints}

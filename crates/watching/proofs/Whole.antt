@@ -12,7 +12,6 @@ use Rattle.rules.specs.History.{Tick, Rising, nextTick}
 use Rattle.detector.proofs.History.{nextTick-snoc}
 use Rattle.body.specs.Postfix.{encode}
 use Rattle.body.specs.Claim.{BodyOf}
-use Rattle.watcher.specs.declared.Ticking.{Ticking}
 use Rattle.watcher.specs.declared.Ticking.the-variants as Ticks
 use Rattle.watcher.specs.Claim.{Watched, opened, window as windowed, nothing as unmoved}
 use Rattle.watcher.proofs.Agrees.{watched-reached}
@@ -25,7 +24,7 @@ use Rattle.tally.proofs.Sums.{sums}
 use Rattle.line.specs.Lines.{windowLine, tallyLine}
 use Rattle.watching.specs.declared.Run.{Run}
 use Rattle.watching.specs.Runs.{fresh, tallyOf, wentOn, finishLine}
-use Rattle.watching.specs.Answer.{IsBegun, IsStepped, LineTaken}
+use Rattle.watching.specs.Answer.{IsBegun, IsStepped}
 use Rattle.watching.specs.Answer.Windowed.{added, full}
 use Rattle.watching.specs.Answer.LineTaken.{begun, unbegun, window, nothing, refused, after}
 use Rattle.watching.specs.Whole.{Takes}
