@@ -10,7 +10,6 @@ use Rattle.watcher.proofs.Agrees.{reached-form, watched-reached}
 use Rattle.watcher.proofs.Feeds.{ticked-form}
 use Rattle.watching.specs.declared.Run.{Run}
 use Rattle.watching.specs.Answer.{LineTaken}
-use Rattle.watching.specs.Answer.Windowed.{added, full}
 use Rattle.watching.specs.Answer.LineTaken.{begun, unbegun, window, nothing, refused, after}
 
 -- opening does

@@ -1,9 +1,8 @@
 -- Lines of an input, one after the other: a line goes, and what goes goes on. Assumes nothing.
-use Prim.Native.Nat.{ℕ, suc, _+_, _-_, _<_, _≤_, min}
-use mathlib.Core.Path.{_≡_, refl, sym, ap, subst, _∙_}
-use mathlib.Core.List.{List, [], _∷_, _++_, append-assoc, append-nil}
+use Prim.Native.Nat.{ℕ, suc, _+_, _-_, _≤_, min}
+use mathlib.Core.Path.{_≡_, refl, sym, ap, _∙_}
+use mathlib.Core.List.{List, [], _++_, append-assoc, append-nil}
 use native.Mathlib.Omega.{arith}
-use native.Mathlib.Numerals.{add-one}
 use lib.ListN.{length, take, drop, length-take, length-drop, length-append, take-append-drop, drop-of-length-le}
 use lib.Seq.{length-take-le, take-all, take-at, drop-at, drop-drop, take-take, drop-append-le}
 use borrow.Rule.Slice.PartMut.{midOf, putMid}
@@ -13,8 +12,8 @@ use Rattle.watching.specs.declared.Run.{Run}
 use Rattle.watching.specs.declared.Taken.{Taken}
 use Rattle.watching.specs.declared.Chunked.{Chunked}
 use Rattle.watching.specs.Answer.{LineTaken, IsTaken}
-use Rattle.watching.specs.Chunk.{mostHeld, Bites, heldIn, IsChunked}
-use Rattle.watching.specs.Going.{lineLength, Unended, LineEnds, Appended, WritesOn, Goes, GoesFrom, GoesNext, JoinReady}
+use Rattle.watching.specs.Chunk.{mostHeld}
+use Rattle.watching.specs.Going.{lineLength, LineEnds, Appended, WritesOn, Goes, GoesFrom, GoesNext, JoinReady}
 use Rattle.watching.proofs.Takings.{part-first}
 use Rattle.watching.proofs.Biting.{line-leads}
 use Rattle.watching.proofs.Forms.{taken-form}
