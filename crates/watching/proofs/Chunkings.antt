@@ -19,31 +19,33 @@ use Rattle.watching.proofs.Biting.{stops, held-all, bites-some}
 use Rattle.watching.proofs.Appending.{take-least}
 use Rattle.watching.proofs.Goings.{writes-whole}
 
-module _ (run : Run) (held kept : ℕ) (chunk p s d : List ℕ) (k : kept ≡ min held mostHeld) (long : mostHeld ≤ length p) where
-  count : length (take kept p) ≡ kept
-  count = length-take-le kept p (omega arith)
+held-length : (held kept : ℕ) (p : List ℕ) → kept ≡ min held mostHeld → mostHeld ≤ length p → length (take kept p) ≡ kept
+held-length held kept p k long = length-take-le kept p (omega arith)
 
+module _ {run : Run} {held kept : ℕ} {chunk p s d : List ℕ} (k : kept ≡ min held mostHeld) (long : mostHeld ≤ length p) where
   -- there is no room for a line
   pub chunk-unroomed : length d < mostWritten → IsChunked run held chunk p p s s d d (record { run = run; held = kept; used = 0; written = 0 })
-  chunk-unroomed h = record {
-    bytes = [];
-    kept = take kept p;
-    left = chunk;
-    taken = rw (← k) (stops h chunk);
-    used = omega arith;
-    counts = sym count;
-    holds = rw count (sym (take-append-drop kept p));
-    written = nothing-written d;
-  }
+  chunk-unroomed h =
+      let count = held-length held kept p k long in
+      record {
+        bytes = [];
+        kept = take kept p;
+        left = chunk;
+        taken = rw (← k) (stops h chunk);
+        used = omega arith;
+        counts = sym count;
+        holds = rw count (sym (take-append-drop kept p));
+        written = nothing-written d;
+      }
 
   -- no line ends in the chunk
-  pub chunk-unended : (n used : ℕ) (p′ : List ℕ) → mostWritten ≤ length d → Unended chunk → used ≡ length chunk → Appended p kept chunk p′ n
+  pub chunk-unended : {n used : ℕ} {p′ : List ℕ} → mostWritten ≤ length d → Unended chunk → used ≡ length chunk → Appended p kept chunk p′ n
       → IsChunked run held chunk p p′ s s d d (record { run = run; held = n; used = used; written = 0 })
-  chunk-unended n used p′ h u e a = record {
+  chunk-unended h u e a = record {
     bytes = [];
     kept = take mostHeld (take kept p ++ chunk);
     left = [];
-    taken = rw (← k) (held-all h (take kept p) chunk (omega (arith, count)) u);
+    taken = rw (← k) (held-all h (take kept p) chunk (omega (arith, held-length held kept p k long)) u);
     used = omega arith;
     counts = a .counts;
     holds = rw (a .counts) at (a .holds);
@@ -51,7 +53,7 @@ module _ (run : Run) (held kept : ℕ) (chunk p s d : List ℕ) (k : kept ≡ mi
   }
 
   -- lines were taken
-  module _ (s′ d′ : List ℕ) (r : Chunked) (g : Goes run (take kept p) 0 0 chunk s s′ d d′ r) where
+  module _ {s′ d′ : List ℕ} {r : Chunked} (g : Goes run (take kept p) 0 0 chunk s s′ d d′ r) where
     -- then there is no room for another
     pub chunk-full : length d - r .written < mostWritten → IsChunked run held chunk p p s s′ d d′ r
     chunk-full h =
@@ -68,9 +70,9 @@ module _ (run : Run) (held kept : ℕ) (chunk p s d : List ℕ) (k : kept ≡ mi
         }
 
     -- then no other ends in the chunk
-    pub chunk-held : (p′ : List ℕ) (r′ : Chunked) → mostWritten ≤ length d - r .written → Unended (drop (r .used) chunk) → HeldRest chunk p p′ r r′
+    pub chunk-held : {p′ : List ℕ} {r′ : Chunked} → mostWritten ≤ length d - r .written → Unended (drop (r .used) chunk) → HeldRest chunk p p′ r r′
         → IsChunked run held chunk p p′ s s′ d d′ r′
-    chunk-held p′ r′ h u x =
+    chunk-held h u x =
         let all : length d - 0 ≡ length d = omega arith in
         record {
           bytes = g .bytes;
@@ -99,26 +101,27 @@ module _ {run : Run} {held : ℕ} {chunk p p′ s s′ d d′ : List ℕ} {r : C
       fewer (x ∷ l) h b = omega (arith, bites-some q b)
 
 -- the bytes held, of a list that may be short
-module _ (run : Run) (held kept : ℕ) (p s d : List ℕ) (k : kept ≡ min (min held mostHeld) (length p)) where
-  pub last-held : take kept p ≡ heldIn held p
-  last-held = sym (take-least p (min held mostHeld) kept (omega arith))
+last-held : (held kept : ℕ) (p : List ℕ) → kept ≡ min (min held mostHeld) (length p) → heldIn held p ≡ take kept p
+last-held held kept p k = take-least p (min held mostHeld) kept (omega arith)
 
+-- they are the last line, or line 1
+last-one : (run : Run) (h : List ℕ) → (length h ≡ 0 → run .phase ≡ 0) → lastLines run h ≡ h ∷ []
+last-one run [] n = simp (eq-eqb (run .phase) 0 (n refl))
+last-one run (c ∷ h) n = refl
+
+module _ {run : Run} {held kept : ℕ} {p s d : List ℕ} (k : kept ≡ min (min held mostHeld) (length p)) where
   -- there is no last line
   pub last-none : kept ≡ 0 → (run .phase ≡ 0 → ⊥) → LastTaken run held p s s d d (record { run = run; written = 0 })
   last-none e n =
-      let h : heldIn held p ≡ [] = sym last-held ∙ ap (λ (i : ℕ). take i p) e in
+      let h : heldIn held p ≡ [] = last-held held kept p k ∙ ap (λ (i : ℕ). take i p) e in
       record { bytes = []; takes = rw h (simp (ne-eqb (run .phase) 0 n) none); written = nothing-written d }
 
-  last-one : (h : List ℕ) → (length h ≡ 0 → run .phase ≡ 0) → lastLines run h ≡ h ∷ []
-  last-one [] n = simp (eq-eqb (run .phase) 0 (n refl))
-  last-one (c ∷ h) n = refl
-
   -- it is taken
-  pub last-taken : (s′ d′ : List ℕ) (r : Taken) → (kept ≡ 0 → run .phase ≡ 0) → IsTaken run (take kept p) s s′ d d′ r → LastTaken run held p s s′ d d′ r
-  last-taken s′ d′ r n t =
+  pub last-taken : {s′ d′ : List ℕ} {r : Taken} → (kept ≡ 0 → run .phase ≡ 0) → IsTaken run (take kept p) s s′ d d′ r → LastTaken run held p s s′ d d′ r
+  last-taken n t =
       let few : length (take kept p) ≡ kept = length-take-le kept p (omega arith) in
       record {
         bytes = t .bytes ++ [];
-        takes = rw (← last-held, last-one (take kept p) (λ e. n (omega arith))) (more (t .line) none);
+        takes = rw (last-held held kept p k, last-one run (take kept p) (λ e. n (omega arith))) (more (t .line) none);
         written = rw (append-nil (t .bytes)) (t .written);
       }

@@ -51,8 +51,6 @@ use Rattle.watching.specs.Answer.{
   BeginAnswers,
   StepRefused,
   StepAnswers,
-  Windowed,
-  LineTaken,
   IsTaken,
   IsWindowed,
   IsRefused,

@@ -1,5 +1,8 @@
 -- `watching::pieces::take` meets its contract, by the ways that a chunk is taken. Assumes nothing.
 use native.Mathlib.Omega.{arith}
+use denote.Ref.{now}
+use lib.ListN.{take}
+use Rattle.watching.specs.Going.{Goes}
 use Rattle.watching.proofs.Goings.{writes-length, goes-then}
 use Rattle.watching.proofs.Chunkings.{chunk-unroomed, chunk-unended, chunk-full, chunk-held}
 use borrow.Author.Needs.{needs}
@@ -13,8 +16,7 @@ returns : tie.Need-returns
 returns c =
     let k = c .before in
     let s = k .before .before .before .before .before in
-    chunk-unroomed (s .args .run) (s .args .held) _ (s .args .chunk .now) (s .args .part .now) (s .args .state .now) (s .args .out .now)
-    (k .least .ensures) (s .pre) (c .if1 .taken)
+    chunk-unroomed (k .least .ensures) (s .pre) (c .if1 .taken)
 
 line-end-requires : tie.Need-line-end-requires
 line-end-requires c κs = search needs
@@ -31,9 +33,8 @@ returns-2 c =
     let e = a .before .before .before in
     let k = e .before .before in
     let s = k .before .before .before .before .before in
-    chunk-unended (s .args .run) (s .args .held) _ (s .args .chunk .now) (s .args .part .now) (s .args .state .now) (s .args .out .now) (k .least .ensures)
-    (s .pre) _ _ _ (omega (arith, e .before .if1 .left)) (omega (arith, e .line-end .ensures, a .before .before .if2 .taken)) (a .before .before .if2 .taken)
-    (a .append .ensures)
+    let whole = a .before .before .if2 .taken in
+    chunk-unended (k .least .ensures) (s .pre) (e .before .if1 .left) (omega (arith, e .line-end .ensures, whole)) whole (a .append .ensures)
 
 take-joined-requires : tie.Need-take-joined-requires
 take-joined-requires c κs = search needs
@@ -53,15 +54,19 @@ same-length-3 c = search needs
 same-length-4 : tie.Need-same-length-4
 same-length-4 c = search needs
 
+-- the lines taken, from the beginning of the chunk
+lines-go : (c : tie.After-take-lines)
+    → let k = c .before .before .before .before .before .before .before .before .before .before .before .before .before .before in
+    let a = k .before .before .before .before .before .args in
+    Goes (a .run) (take (k .least .result) (now (a .part))) 0 0 (now (a .chunk)) (now (a .state)) (c .take-lines .last .1 .1 .0) (now (a .out))
+    (c .take-lines .last .1 .1 .1 .0) (c .take-lines .result)
+lines-go c = goes-then (c .before .before .before .before .before .before .before .take-joined .ensures) (c .take-lines .ensures .goes)
+
 returns-3 : tie.Need-returns-3
 returns-3 c =
     let l = c .before .before .before .before .before .before in
-    let f = l .before .before .before .before .before .before .before in
-    let k = f .before .before .before .before .before .before .before in
-    let s = k .before .before .before .before .before in
-    let g = goes-then (f .take-joined .ensures) (l .take-lines .ensures .goes) in
-    chunk-full (s .args .run) (s .args .held) _ (s .args .chunk .now) (s .args .part .now) (s .args .state .now) (s .args .out .now) (k .least .ensures)
-    (s .pre) _ _ _ g (omega (arith, c .if3 .taken, writes-length (g .writes)))
+    let k = l .before .before .before .before .before .before .before .before .before .before .before .before .before .before in
+    chunk-full (k .least .ensures) (k .before .before .before .before .before .pre) (lines-go l) (omega (arith, c .if3 .taken, writes-length (lines-go l .writes)))
 
 hold-rest-requires : tie.Need-hold-rest-requires
 hold-rest-requires c κs =
@@ -84,12 +89,10 @@ returns-4 c =
     let l = h .before .before .before .before .before .before .before .before in
     let f = l .before .before .before .before .before .before .before in
     let k = f .before .before .before .before .before .before .before in
-    let s = k .before .before .before .before .before in
-    let g = goes-then (f .take-joined .ensures) (l .take-lines .ensures .goes) in
-    let long = writes-length (g .writes) in
     let left = h .before .before .if3 .left in
-    chunk-held (s .args .run) (s .args .held) _ (s .args .chunk .now) (s .args .part .now) (s .args .state .now) (s .args .out .now) (k .least .ensures)
-    (s .pre) _ _ _ g _ _ (omega (arith, left, long)) (l .take-lines .ensures .stops (omega (arith, left, long, writes-length (f .take-joined .ensures .writes)))) (h .hold-rest .ensures)
+    let long = writes-length (lines-go l .writes) in
+    let stops = l .take-lines .ensures .stops (omega (arith, left, long, writes-length (f .take-joined .ensures .writes))) in
+    chunk-held (k .least .ensures) (k .before .before .before .before .before .pre) (lines-go l) (omega (arith, left, long)) stops (h .hold-rest .ensures)
 
 pub take-spec : {M : Type 1} → statement M
 take-spec =

@@ -61,7 +61,9 @@ fits-more : (c : tie.Start) → c .args .end + 1 < 2 ^ 64
 fits-more c = omega (arith, c .pre .ends .inside)
 
 add-t16 : tie.Need-add-t16
-add-t16 c = record { fits = fits-more (c .before .before .before .before .before .before .before .before .before .before .before .before .before .before .before .before .before .before .before .before .before .before) }
+add-t16 c =
+    let second = c .before .before .before .before .before .before .before .before .before .before .before in
+    record { fits = fits-more (second .before .before .before .before .before .before .before .before .before .before .before) }
 
 same-length : tie.Need-same-length
 same-length c = search needs

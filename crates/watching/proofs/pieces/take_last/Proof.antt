@@ -18,8 +18,7 @@ least-requires-2 c κs = search needs
 returns : tie.Need-returns
 returns c =
     let k = c .before .before .before in
-    let s = k .before .before .before .before .before in
-    last-none (s .args .run) (s .args .held) _ (s .args .part .now) _ (s .args .out .now) (omega (arith, k .least2 .ensures, k .before .least .ensures))
+    last-none (rw (k .before .least .ensures) at (k .least2 .ensures))
     (c .before .before .if1 .taken) (c .if2 .taken)
 
 sub-take-line : tie.Need-sub-take-line
@@ -46,8 +45,7 @@ returns-2 c =
     let j = taken .before .before .before .before in
     let k = j .before in
     let s = k .before .before .before .before .before in
-    last-taken (s .args .run) (s .args .held) (k .least2 .result) (s .args .part .now) _ (s .args .out .now)
-    (omega (arith, k .least2 .ensures, k .before .least .ensures)) _ _ _
+    last-taken (rw (k .before .least .ensures) at (k .least2 .ensures))
     (λ e. ⊎-elim (λ w. w .2 .left) (λ w. absurd (w .left e)) (j .if1 .came))
     (rw (part-first (k .least2 .result) (s .args .part .now)) at (taken .take-line .ensures))
 

@@ -34,7 +34,8 @@ same-length-2 c = writes-length (c .before .before .before .before .loop .inv .0
 returns : tie.Need-returns Inv-loop μ-loop
 returns c =
     let l = c .before .before .before .before in
-    record { goes = l .loop .inv .0; stops = λ h. omega (arith, c .before .line-end .ensures, c .if2 .taken, length-drop (l .loop .p .used) (l .before .before .before .before .args .input .now)) }
+    let rest = length-drop (l .loop .p .used) (l .before .before .before .before .args .input .now) in
+    record { goes = l .loop .inv .0; stops = λ h. omega (arith, c .before .line-end .ensures, c .if2 .taken, rest) }
 
 take-next-requires : tie.Need-take-next-requires Inv-loop μ-loop
 take-next-requires c κs =
