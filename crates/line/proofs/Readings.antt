@@ -1,12 +1,14 @@
 -- The ways that the reader's functions go: one lemma for each answer. Assumes nothing.
 use mathlib.Core.Path.{_≡_, refl, sym, ap, _∙_}
 use Prim.Native.Nat.{ℕ, _+_, _*_, _%_, _^_, _<_, _≤_, min}
+use native.Mathlib.Decide.{decLt}
 use native.Mathlib.Omega.{arith}
 use native.Mathlib.Numerals.{add-one}
 use mathlib.Core.List.{List, _∷_}
 use lib.ListN.{length, getD, drop, drop-of-length-le}
 use lib.Seq.{drop-cons}
 use borrow.Author.Tests.{eq-eqb, ne-eqb}
+use Rattle.rules.specs.Decisions.{pick}
 use Rattle.rules.specs.Limits.{letters, ticks}
 use Rattle.text.specs.Machine.{letterOf, digitOf}
 use Rattle.line.specs.Lines.{mostLine}
@@ -24,11 +26,11 @@ next-byte s i h = rw (add-one, drop-cons s i 0)
 
 -- ---- the number
 
--- the digits before `end` make a number, which is not 0; its value is told up to 2 ^ 32
+-- the digits before `end` make a number, which is not 0; its value is right up to 2 ^ 32, and else over it
 pub record Going (s : List ℕ) (end value : ℕ) : Type 0 where
   pub tick : ℕ
   pub some : 0 < tick
-  pub told : value ≡ min tick ticks
+  pub told : min value ticks ≡ min tick ticks
   pub inside : end ≤ length s
   pub reads : frontOf s ≡ grow tick (drop end s)
 
@@ -61,24 +63,28 @@ module _ (s : List ℕ) where
     }
 
   module _ {end value : ℕ} (g : Going s end value) where
-    going-value : grow (g .tick) (drop end s) ≡ number (g .tick) (drop end s) → IsNumber s end value
-    going-value e = record { tick = g .tick; front = g .reads ∙ e; told = g .told; inside = g .inside }
+    going-value : (v : ℕ) → v ≡ min value ticks → grow (g .tick) (drop end s) ≡ number (g .tick) (drop end s) → IsNumber s end v
+    going-value v c e = record { tick = g .tick; front = g .reads ∙ e; told = c ∙ g .told; inside = g .inside }
 
-    pub value-end : length s ≤ end → IsNumber s end value
+    pub value-end : (v : ℕ) → v ≡ min value ticks → length s ≤ end → IsNumber s end v
     unfolding grow
-    value-end h = going-value (ap (grow (g .tick)) (drop-of-length-le s h) ∙ ap (number (g .tick)) (sym (drop-of-length-le s h)))
+    value-end v c h = going-value v c (ap (grow (g .tick)) (drop-of-length-le s h) ∙ ap (number (g .tick)) (sym (drop-of-length-le s h)))
 
     module _ (h : end < length s) (d : ℕ) (q : d ≡ digitOf (getD s end 0)) where
-      pub value-other : 10 ≤ d → IsNumber s end value
-      value-other l =
-          going-value (ap (grow (g .tick)) (next-byte s end h) ∙ grow-other (getD s end 0) (drop (end + 1) s) (g .tick) (omega arith)
+      pub value-other : (v : ℕ) → v ≡ min value ticks → 10 ≤ d → IsNumber s end v
+      value-other v c l =
+          going-value v c (ap (grow (g .tick)) (next-byte s end h) ∙ grow-other (getD s end 0) (drop (end + 1) s) (g .tick) (omega arith)
           ∙ ap (number (g .tick)) (sym (next-byte s end h)))
 
-      pub going-more : (value′ : ℕ) → d < 10 → value′ ≡ min (value * 10 + d) ticks → Going s (end + 1) value′
+      grows : (k : Dec (value < ticks)) → min (pick k (value * 10 + d) value) ticks ≡ min (g .tick * 10 + d) ticks
+      grows (yes k) = omega (arith, g .told)
+      grows (no k) = omega (arith, g .told)
+
+      pub going-more : (value′ : ℕ) → d < 10 → value′ ≡ pick (decLt value ticks) (value * 10 + d) value → Going s (end + 1) value′
       going-more value′ l e = record {
         tick = g .tick * 10 + d;
         some = omega (arith, g .some);
-        told = omega (arith, g .told);
+        told = ap (λ (v : ℕ). min v ticks) e ∙ grows (decLt value ticks);
         inside = omega arith;
         reads =
             g .reads ∙ ap (grow (g .tick)) (next-byte s end h)

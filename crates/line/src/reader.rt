@@ -1,7 +1,9 @@
 // Reading: the number at the front of a line, and the letters after its space.
 ghost use mathlib.Core.Path.{_≡_};
-ghost use Prim.Native.Nat.{_≤_, min};
+ghost use Prim.Native.Nat.{_+_, _*_, _≤_, min};
+ghost use native.Mathlib.Decide.{decLt};
 ghost use lib.ListN.{length, drop};
+ghost use Rattle.rules.specs.Decisions.{pick};
 ghost use Rattle.rules.specs.Limits.{ticks};
 ghost use Rattle.text.specs.Machine.{letterOf, digitOf};
 ghost use Rattle.line.specs.Scan.{wordOf};
@@ -41,12 +43,22 @@ pub(crate) fn read_number(line: &[u8]) -> Decimal
     while end < line.len() {
         let d = digit(line[end]);
         if d > 9 {
-            return Decimal::Value(end, value);
+            return Decimal::Value(end, capped(value));
         }
-        value = capped(value * 10 + d as u64);
+        value = grown(value, d);
         end += 1;
     }
-    Decimal::Value(end, value)
+    Decimal::Value(end, capped(value))
+}
+
+// The number with a digit more, if it is not over the limit already.
+fn grown(n: u64, d: u8) -> u64
+    ensures { λ r. ⌜ r ≡ pick (decLt n ticks) (n * 10 + d) n ⌝ }
+{
+    if n < OVER {
+        return n * 10 + d as u64;
+    }
+    n
 }
 
 // The number, or OVER for any larger one.
@@ -60,13 +72,8 @@ fn capped(n: u64) -> u64
 fn digit(byte: u8) -> u8
     ensures { λ r. ⌜ r ≡ digitOf byte ⌝ }
 {
-    if byte < b'0' {
-        10
-    } else if byte <= b'9' {
-        byte - b'0'
-    } else {
-        10
-    }
+    let d = std::num::wrapping_sub_u8(byte, b'0');
+    if d < 10 { d } else { 10 }
 }
 
 // The word of the events whose letters stand from `at` to the line's end, 0 where they are not letters in type order.

@@ -40,20 +40,16 @@ shared-slice-read-digit-2 c = search needs
 digit-requires-2 : tie.Need-digit-requires-2 Inv-loop μ-loop
 digit-requires-2 c κs = search needs
 
-returns-4 : tie.Need-returns-4 Inv-loop μ-loop
-returns-4 c = value-other _ (c .before .before .before .before .loop .inv) (omega arith) _ (c .before .digit2 .ensures) (omega arith)
-
-mul-capped : tie.Need-mul-capped Inv-loop μ-loop
-mul-capped c = search needs
-
-cast-capped : tie.Need-cast-capped Inv-loop μ-loop
-cast-capped c = search needs
-
-add-capped : tie.Need-add-capped Inv-loop μ-loop
-add-capped c = search needs
-
 capped-requires : tie.Need-capped-requires Inv-loop μ-loop
 capped-requires c κs = search needs
+
+returns-4 : tie.Need-returns-4 Inv-loop μ-loop
+returns-4 c =
+    let d = c .before .before in
+    value-other _ (d .before .before .before .loop .inv) (omega arith) _ (d .digit2 .ensures) _ (c .capped .ensures) (omega arith)
+
+grown-requires : tie.Need-grown-requires Inv-loop μ-loop
+grown-requires c κs = search needs
 
 add-end : tie.Need-add-end Inv-loop μ-loop
 add-end c = search needs
@@ -64,10 +60,13 @@ loop-less c = search needs
 loop-again : tie.Need-loop-again Inv-loop μ-loop
 loop-again c =
     let d = c .before .before in
-    going-more _ (d .before .before .before .loop .inv) (omega arith) _ (d .digit2 .ensures) _ (omega arith) (c .capped .ensures)
+    going-more _ (d .before .before .before .loop .inv) (omega arith) _ (d .digit2 .ensures) _ (omega arith) (c .grown .ensures)
+
+capped-requires-2 : tie.Need-capped-requires-2 Inv-loop μ-loop
+capped-requires-2 c κs = search needs
 
 returns-5 : tie.Need-returns-5 Inv-loop μ-loop
-returns-5 c = value-end _ (c .before .loop .inv) (omega arith)
+returns-5 c = value-end _ (c .before .before .loop .inv) _ (c .capped2 .ensures) (omega arith)
 
 pub read-number-spec : {M : Type 1} → statement M
 read-number-spec =
@@ -84,12 +83,11 @@ read-number-spec =
     loop-holds
     shared-slice-read-digit-2
     digit-requires-2
-    returns-4
-    mul-capped
-    cast-capped
-    add-capped
     capped-requires
+    returns-4
+    grown-requires
     add-end
     loop-less
     loop-again
+    capped-requires-2
     returns-5)
