@@ -9,9 +9,10 @@ use native.Mathlib.Numerals.{add-one}
 use lib.ListN.{length, take, drop, getD, set, drop-of-length-le}
 use lib.Seq.{paste, paste-suc, take-all}
 use Rattle.rules.specs.Decisions.{pick}
-use Rattle.detector.specs.Memory.{Span}
-use Rattle.detector.specs.Choice.{gather}
-use Rattle.cell.specs.Words.{keptWords}
+use Rattle.detector.specs.Memory.{Span, none}
+use Rattle.detector.specs.Choice.{better, choose, gather}
+use Rattle.cell.specs.Words.{keptWords, keptOf}
+use Rattle.cell.specs.Cell.{pairsOf}
 use Rattle.cell.specs.Pairs.{spansFrom}
 use Rattle.cell.specs.Calls.{StoreReady, newWords, Gathered, KeepReady, keptAfter}
 use Rattle.cell.proofs.Words.{length-kept-words}
@@ -76,7 +77,29 @@ kept-stored c ys kept c′ n r k g e =
     e ∙ ap₂ (λ (z : ℕ) (l : List Span). take 2 c ++ keptWords z l) m (g .pairs ∙ ap (λ (l : List Span). gather l ys) (sym (k .pairs .same)))
 
 -- without possible starts there is nothing to keep
-pub kept-nothing : (c ys : List ℕ) (n : ℕ) → KeepReady c n ys → length ys ≤ 0 → c ≡ keptAfter ys c
+pub kept-nothing : (c ys : List ℕ) → length c ≡ 2 * (1 + length ys) → length ys ≡ 0 → c ≡ keptAfter ys c
 unfolding keptWords
-kept-nothing c [] n k h = sym (append-nil (take 2 c) ∙ take-all 2 c (omega (arith, k .words)))
-kept-nothing c (a ∷ ys) n k h = absurd (omega arith)
+kept-nothing c [] k h = sym (append-nil (take 2 c) ∙ take-all 2 c (omega arith))
+kept-nothing c (a ∷ ys) k h = absurd (omega arith)
+
+-- and latest alone is chosen, if it ends before the start
+pub latest-chosen : (c : List ℕ) (σ : ℕ) → length c ≡ 2 → pick (decLt (getD c 1 0) σ) (getD c 0 0) 0 ≡ choose (pairsOf c) σ .start
+unfolding choose better keptOf
+latest-chosen (a ∷ b ∷ []) σ n = go (decLt b σ)
+  where
+    sooner : (d : Dec (0 < a)) (e : Dec (a < 0)) (f : Dec (b < 0))
+        → let q : Span = record { start = a; end = b } in
+        a ≡ pick d q (pick e none (pick f q none)) .start
+    sooner (yes d) e f = refl
+    sooner (no d) (yes e) f = absurd (omega arith)
+    sooner (no d) (no e) (yes f) = absurd (omega arith)
+    sooner (no d) (no e) (no f) = omega arith
+
+    go : (d : Dec (b < σ))
+        → let q : Span = record { start = a; end = b } in
+        pick d a 0 ≡ pick d (pick (decLt 0 a) q (pick (decLt a 0) none (pick (decLt b 0) q none))) none .start
+    go (yes d) = sooner (decLt 0 a) (decLt a 0) (decLt b 0)
+    go (no d) = refl
+latest-chosen [] σ n = absurd (omega arith)
+latest-chosen (a ∷ []) σ n = absurd (omega arith)
+latest-chosen (a ∷ b ∷ c ∷ l) σ n = absurd (omega arith)

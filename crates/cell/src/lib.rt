@@ -10,7 +10,7 @@ ghost use Rattle.rules.specs.Decisions.{pick};
 ghost use Rattle.rules.specs.Limits.{ticks};
 ghost use Rattle.detector.specs.Choice.{better, choose, insert, keep};
 ghost use Rattle.cell.specs.Words.{spanAt};
-ghost use Rattle.cell.specs.Cell.{cellWords, possible};
+ghost use Rattle.cell.specs.Cell.{cellWords, possible, pairsOf};
 ghost use Rattle.cell.specs.Form.{pairFits, allZero, keptFits, cellFits};
 ghost use Rattle.cell.specs.Pairs.{spanOf, spansFrom, putSpan};
 ghost use Rattle.cell.specs.Calls.{Sized, Paired, StepReady, Stepped, Renewed, PairsIn};
@@ -180,11 +180,33 @@ fn chain_step(cell: &mut [u64], starts: &[u64], x: u64, y: u64, t: u64) -> u64
     requires { ⌜ StepReady Chain t (now starts) (now cell) ⌝ }
     ensures { λ r. ⌜ Stepped Chain t x y (now (starts .entry)) (now (cell .entry)) (now (cell .exit)) r ⌝ }
 {
+    let answer = choose_and_keep(cell, starts, y);
+    renew(cell, 0, x, t);
+    answer
+}
+
+// The answer, and then the kept pairs as they become. Without possible starts of y there is no pair but latest.
+fn choose_and_keep(cell: &mut [u64], starts: &[u64], y: u64) -> u64
+    requires { ⌜ (length (now starts) ≤ 62) × (length (now cell) ≡ 2 * (1 + length (now starts))) ⌝ }
+    ensures { λ r. ⌜ (r ≡ choose (pairsOf (now (cell .entry))) y .start) × (now (cell .exit) ≡ keptAfter (now (starts .entry)) (now (cell .entry))) ⌝ }
+{
+    if starts.len() == 0 {
+        return start_before(cell[0], cell[1], y);
+    }
     let pairs = pairs_in(cell);
     let answer = choose_pair(cell, pairs, y);
-    renew_kept(cell, pairs, starts);
-    renew(cell, 0, x, t);
+    gather_kept(cell, pairs, starts);
     answer.start
+}
+
+// The start of a pair that ends before another start, else 0.
+fn start_before(start: u64, end: u64, y: u64) -> u64
+    ensures { λ r. ⌜ r ≡ pick (decLt end y) start 0 ⌝ }
+{
+    if end < y {
+        return start;
+    }
+    0
 }
 
 fn larger(a: u64, b: u64) -> u64
@@ -287,17 +309,7 @@ fn put_pair(words: &mut [u64], at: usize, pair: Pair)
     words[at + 1] = pair.end;
 }
 
-// The new kept pairs take the place of the old; without possible starts there are none.
-fn renew_kept(cell: &mut [u64], pairs: usize, starts: &[u64])
-    requires { ⌜ KeepReady (now cell) pairs (now starts) ⌝ }
-    ensures { λ _. ⌜ now (cell .exit) ≡ keptAfter (now (starts .entry)) (now (cell .entry)) ⌝ }
-{
-    if 0 < starts.len() {
-        gather_kept(cell, pairs, starts);
-    }
-}
-
-// The new kept pairs are gathered apart, since each is chosen from the old.
+// The new kept pairs take the place of the old. They are gathered apart, since each is chosen from the old.
 fn gather_kept(cell: &mut [u64], pairs: usize, starts: &[u64])
     requires { ⌜ KeepReady (now cell) pairs (now starts) ⌝ }
     ensures { λ _. ⌜ now (cell .exit) ≡ keptAfter (now (starts .entry)) (now (cell .entry)) ⌝ }
