@@ -23,12 +23,9 @@ module _ {made : List ℕ} {from : ℕ} {bytes : List ℕ} (b : Backward (replic
   pub no-room : (d : List ℕ) → length d < mostWritten - from → IsRoom bytes d (mostWritten - from)
   no-room d h = record { needs = count; lacks = h }
 
-  pub all-written : (d d′ : List ℕ) → mostWritten - from ≤ length d
-      → d′ ≡ take (mostWritten - from) (take (mostWritten - from) (drop from made)) ++ drop (mostWritten - from) d
-      → IsWritten bytes d d′ (mostWritten - from)
-  all-written d d′ h q = record {
-    counts = count;
-    fits = h;
-    written = q ∙ ap (λ (v : List ℕ). v ++ drop (mostWritten - from) d)
-        (ap (take (mostWritten - from)) whole ∙ take-all (mostWritten - from) bytes (omega (arith, count)));
-  }
+  -- copied from the part where it was made
+  pub all-written : (d d′ part : List ℕ) → mostWritten - from ≤ length d → part ≡ take (mostWritten - from) (drop from made)
+      → d′ ≡ take (length part) part ++ drop (length part) d → IsWritten bytes d d′ (mostWritten - from)
+  all-written d d′ part h e q =
+      let same = e ∙ whole in
+      record { counts = count; fits = h; written = q ∙ rw (same, count, take-all (length bytes) bytes (omega arith)) }

@@ -5,15 +5,11 @@ ghost use native.Mathlib.Decide.{decLt};
 ghost use lib.ListN.{length, drop};
 ghost use Rattle.rules.specs.Decisions.{pick};
 ghost use Rattle.rules.specs.Limits.{ticks};
-ghost use Rattle.text.specs.Machine.{letterOf, digitOf};
 ghost use Rattle.line.specs.Scan.{wordOf};
 ghost use Rattle.line.specs.Told.{NumberOf};
 
 // The number of event types.
 const LETTERS: u8 = 32;
-
-// A small letter less this is its event type: `a` is 26.
-const SMALL: u8 = 71;
 
 // What any larger number is taken for: one more than the largest tick.
 const OVER: u64 = 4294967296;
@@ -31,7 +27,7 @@ pub(crate) fn read_number(line: &[u8]) -> Decimal
     if line.len() == 0 {
         return Decimal::Bad;
     }
-    let first = digit(line[0]);
+    let first = text::digit(line[0]);
     if first > 9 {
         return Decimal::Bad;
     }
@@ -41,7 +37,7 @@ pub(crate) fn read_number(line: &[u8]) -> Decimal
     let mut value = first as u64;
     let mut end = 1;
     while end < line.len() {
-        let d = digit(line[end]);
+        let d = text::digit(line[end]);
         if d > 9 {
             return Decimal::Value(end, capped(value));
         }
@@ -68,14 +64,6 @@ fn capped(n: u64) -> u64
     if n < OVER { n } else { OVER }
 }
 
-// 0..9 for a digit, 10 for any other byte.
-fn digit(byte: u8) -> u8
-    ensures { λ r. ⌜ r ≡ digitOf byte ⌝ }
-{
-    let d = std::num::wrapping_sub_u8(byte, b'0');
-    if d < 10 { d } else { 10 }
-}
-
 // The word of the events whose letters stand from `at` to the line's end, 0 where they are not letters in type order.
 pub(crate) fn read_letters(line: &[u8], at: usize) -> u32
     requires { ⌜ at ≤ length (now line) ⌝ }
@@ -85,7 +73,7 @@ pub(crate) fn read_letters(line: &[u8], at: usize) -> u32
     let mut next: u8 = 0;
     let mut i = at;
     while i < line.len() {
-        let kind = letter(line[i]);
+        let kind = text::letter(line[i]);
         if kind < next {
             return 0;
         }
@@ -97,21 +85,4 @@ pub(crate) fn read_letters(line: &[u8], at: usize) -> u32
         i += 1;
     }
     events
-}
-
-// 0..31 for a letter, 32 for any other byte.
-fn letter(byte: u8) -> u8
-    ensures { λ r. ⌜ r ≡ letterOf byte ⌝ }
-{
-    if byte < b'A' {
-        LETTERS
-    } else if byte <= b'Z' {
-        byte - b'A'
-    } else if byte < b'a' {
-        LETTERS
-    } else if byte <= b'f' {
-        byte - SMALL
-    } else {
-        LETTERS
-    }
 }

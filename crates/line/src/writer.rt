@@ -2,9 +2,9 @@
 use super::LineWritten;
 use refusal::Refusal;
 ghost use mathlib.Core.Path.{_≡_};
-ghost use mathlib.Core.List.{[], _∷_, _++_};
+ghost use mathlib.Core.List.{[], _∷_};
 ghost use Prim.Native.Nat.{_+_, _≤_};
-ghost use lib.ListN.{length, take, drop};
+ghost use lib.ListN.{length};
 ghost use Rattle.line.specs.Lines.{mostDigits, mostWritten, decimal, numbersLine};
 ghost use Rattle.line.specs.Answer.{LineWrittenOf};
 ghost use Rattle.line.specs.Told.{Backward, Before};
@@ -27,7 +27,7 @@ pub(crate) fn write_line(one: &[u8], a: u64, two: &[u8], b: u64, out: &mut [u8])
     if out.len() < need {
         return LineWritten::Refused(Refusal::Room(need));
     }
-    copy(out, &made[from..], need);
+    bytes::copy(&made[from..], out);
     LineWritten::Written(need)
 }
 
@@ -67,16 +67,4 @@ fn write_byte(made: &mut [u8; MOST_WRITTEN], at: usize, byte: u8) -> usize
     let place = at - 1;
     made[place] = byte;
     place
-}
-
-// Copies the first `n` bytes of `from` over those of `to`.
-fn copy(to: &mut [u8], from: &[u8], n: usize)
-    requires { ⌜ (n ≤ length (now to)) × (n ≤ length (now from)) ⌝ }
-    ensures { λ _. ⌜ now (to .exit) ≡ take n (now (from .entry)) ++ drop n (now (to .entry)) ⌝ }
-{
-    let mut i = 0;
-    while i < n {
-        to[i] = from[i];
-        i += 1;
-    }
 }

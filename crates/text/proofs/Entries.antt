@@ -1,12 +1,11 @@
 -- Entries written one after another, and what is copied. Assumes nothing.
 use mathlib.Core.Path.{_≡_, refl, sym, ap, _∙_}
-use Prim.Native.Nat.{ℕ, suc, _+_, _*_, _<_, _≤_}
+use Prim.Native.Nat.{ℕ, suc, _+_, _*_, _≤_}
 use native.Mathlib.Omega.{arith}
-use native.Mathlib.Numerals.{add-one}
 use native.Mathlib.Nat.{add-zero, add-suc, suc-add}
 use mathlib.Core.List.{List, [], _∷_, _++_, append-assoc, append-nil}
-use lib.ListN.{length, getD, take, drop, set, length-set}
-use lib.Seq.{sets, set-out, length-sets, set-at, length-take-le, take-suc, drop-cons, append-snoc}
+use lib.ListN.{length, set}
+use lib.Seq.{sets, set-out, length-sets}
 use Rattle.rules.specs.declared.Op.{Op}
 use Rattle.rules.specs.Limits.{argumentBytes}
 use Rattle.rules.specs.Pattern.{Pattern, event, pair, within, size}
@@ -75,22 +74,3 @@ written-after d d₁ d₂ n m x bytes count one two len =
     ∙ ap (λ (l : List ℕ). sets l (m * entryLength) bytes) (one len)
     ∙ ap (λ (k : ℕ). sets (sets d (n * entryLength) (encode argumentBytes x)) k bytes) (omega (arith, length-encode argumentBytes x))
     ∙ sym (sets-append d (n * entryLength) (encode argumentBytes x) bytes)
-
--- the first i bytes of s over those of d₀
-pub record Copied (d₀ s : List ℕ) (n : ℕ) (d : List ℕ) (i : ℕ) : Type 0 where
-  pub part : d ≡ take i s ++ drop i d₀
-  pub long : length d ≡ length d₀
-  pub upto : i ≤ n
-
-pub copied-more : (d₀ s : List ℕ) (n : ℕ) (d : List ℕ) (i : ℕ) → n ≤ length d₀ → n ≤ length s → i < n → Copied d₀ s n d i
-    → Copied d₀ s n (set d i (getD s i 0)) (i + 1)
-copied-more d₀ s n d i h g l c = record {
-  part =
-      ap (λ (w : List ℕ). set w i (getD s i 0)) (c .part ∙ ap (λ (w : List ℕ). take i s ++ w) (drop-cons d₀ i 0 (omega arith)))
-      ∙ set-at (take i s) (getD d₀ i 0) (drop (suc i) d₀) (getD s i 0) i (length-take-le i s (omega arith))
-      ∙ sym (append-snoc (take i s) (getD s i 0) (drop (suc i) d₀))
-      ∙ ap (λ (w : List ℕ). w ++ drop (suc i) d₀) (sym (take-suc s i 0 (omega arith)))
-      ∙ ap (λ (k : ℕ). take k s ++ drop k d₀) (sym (add-one i));
-  long = length-set d i (getD s i 0) ∙ c .long;
-  upto = omega arith;
-}

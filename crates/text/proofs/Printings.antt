@@ -59,13 +59,9 @@ module _ (b : List ℕ) (w : Bytes b) (p : checkOf argumentBytes b ≡ Sound) wh
     pub no-room : (d : List ℕ) → length d < mostPrinted - byte → IsTextRoom b d (mostPrinted - byte)
     no-room d h = record { some = is-body; needs = bytes; lacks = h }
 
-    pub all-printed : (d d′ : List ℕ) → mostPrinted - byte ≤ length d
-        → d′ ≡ take (mostPrinted - byte) (take (mostPrinted - byte) (drop byte m)) ++ drop (mostPrinted - byte) d
-        → IsPrinted b d d′ (mostPrinted - byte)
-    all-printed d d′ h q = record {
-      some = is-body;
-      counts = bytes;
-      fits = h;
-      written = q ∙ ap (λ (v : List ℕ). v ++ drop (mostPrinted - byte) d)
-          (ap (take (mostPrinted - byte)) made ∙ take-all (mostPrinted - byte) (render (is-body .tree)) (omega (arith, bytes)));
-    }
+    -- copied from the part where it was made
+    pub all-printed : (d d′ part : List ℕ) → mostPrinted - byte ≤ length d → part ≡ take (mostPrinted - byte) (drop byte m)
+        → d′ ≡ take (length part) part ++ drop (length part) d → IsPrinted b d d′ (mostPrinted - byte)
+    all-printed d d′ part h e q =
+        let same = e ∙ made in
+        record { some = is-body; counts = bytes; fits = h; written = q ∙ rw (same, bytes, take-all (length (render (is-body .tree))) (render (is-body .tree)) (omega arith)) }

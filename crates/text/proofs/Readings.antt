@@ -1,10 +1,11 @@
 -- The ways that `read_pattern` goes: one lemma for each answer. Assumes nothing.
 use mathlib.Core.Path.{_≡_, refl, sym, ap, _∙_}
-use Prim.Native.Nat.{ℕ, _*_, _<_, _≤_}
+use Prim.Native.Nat.{ℕ, _*_, _<_, _≤_, _-_}
+use native.Mathlib.Nat.{sub-zero}
 use native.Mathlib.Omega.{arith}
 use mathlib.Core.List.{List, [], _++_}
 use lib.ListN.{length, take, drop, replicate, drop-of-length-le}
-use lib.Seq.{sets-eq, length-sets, take-at}
+use lib.Seq.{sets-eq, length-sets, take-at, take-all}
 use Rattle.rules.specs.Limits.{argumentBytes, mostEntries, mostText}
 use Rattle.body.specs.Postfix.{encode}
 use Rattle.body.proofs.Bodies.{length-encode}
@@ -51,13 +52,10 @@ module _ (s : List ℕ) (short : length s ≤ mostText) where
         (l .written refl ∙ sets-eq (encode argumentBytes (l .tree)) (replicate bodyLength 0) 0 (omega (arith, bytes)))
         ∙ take-at (encode argumentBytes (l .tree)) _ (m * entryLength) (sym bytes)
 
-    pub all-read : (d d′ : List ℕ) → length s ≤ end → m ≤ mostEntries → m * entryLength ≤ length d
-        → d′ ≡ take (m * entryLength) b ++ drop (m * entryLength) d → IsRead s d d′ (m * entryLength)
+    -- copied from the part where it was made
+    pub all-read : (d d′ part : List ℕ) → length s ≤ end → m ≤ mostEntries → m * entryLength ≤ length d → part ≡ take (m * entryLength - 0) b
+        → d′ ≡ take (length part) part ++ drop (length part) d → IsRead s d d′ (m * entryLength)
     unfolding is-text
-    all-read d d′ h g k w = record {
-      some = is-text h;
-      few = omega (arith, l .count);
-      counts = bytes;
-      fits = k;
-      written = w ∙ ap (λ (v : List ℕ). v ++ drop (m * entryLength) d) (made g);
-    }
+    all-read d d′ part h g k e w =
+        let same = e ∙ ap (λ (k : ℕ). take k b) (sub-zero (m * entryLength)) ∙ made g in
+        record { some = is-text h; few = omega (arith, l .count); counts = bytes; fits = k; written = w ∙ rw (same, bytes, take-all (length (encode argumentBytes (l .tree))) (encode argumentBytes (l .tree)) (omega arith)) }

@@ -5,14 +5,14 @@ mod reader;
 use body::BodyCheck;
 use printer::MOST_PRINTED;
 use reader::ENTRY;
+use reader::LETTERS;
 use reader::MOST_BODY;
 use reader::MOST_ENTRIES;
 use reader::Reach;
+use reader::SMALL;
 use refusal::Refusal;
 ghost use mathlib.Core.Path.{_≡_};
-ghost use mathlib.Core.List.{_++_};
-ghost use Prim.Native.Nat.{_≤_};
-ghost use lib.ListN.{length, take, drop};
+ghost use Rattle.text.specs.Machine.{letterOf, digitOf};
 ghost use Rattle.text.specs.Answer.{ReadingOf, PrintingOf};
 
 // The bytes that a text may have.
@@ -52,7 +52,7 @@ pub fn read_pattern(text: &[u8], body: &mut [u8]) -> Reading
             if body.len() < need {
                 return Reading::Refused(Refusal::Room(need));
             }
-            copy(body, &made, need);
+            bytes::copy(&made[0..need], body);
             Reading::Read(need)
         }
     }
@@ -73,20 +73,33 @@ pub fn print_pattern(body: &[u8], text: &mut [u8]) -> Printing
             if text.len() < need {
                 return Printing::Refused(Refusal::Room(need));
             }
-            copy(text, &made[from..], need);
+            bytes::copy(&made[from..], text);
             Printing::Printed(need)
         }
     }
 }
 
-// Copies the first `n` bytes of `from` over those of `to`.
-fn copy(to: &mut [u8], from: &[u8], n: usize)
-    requires { ⌜ (n ≤ length (now to)) × (n ≤ length (now from)) ⌝ }
-    ensures { λ _. ⌜ now (to .exit) ≡ take n (now (from .entry)) ++ drop n (now (to .entry)) ⌝ }
+// 0..31 for a letter, 32 for any other byte.
+pub fn letter(byte: u8) -> u8
+    ensures { λ r. ⌜ r ≡ letterOf byte ⌝ }
 {
-    let mut i = 0;
-    while i < n {
-        to[i] = from[i];
-        i += 1;
+    if byte < b'A' {
+        LETTERS
+    } else if byte <= b'Z' {
+        byte - b'A'
+    } else if byte < b'a' {
+        LETTERS
+    } else if byte <= b'f' {
+        byte - SMALL
+    } else {
+        LETTERS
     }
+}
+
+// 0..9 for a digit, 10 for any other byte.
+pub fn digit(byte: u8) -> u8
+    ensures { λ r. ⌜ r ≡ digitOf byte ⌝ }
+{
+    let d = std::num::wrapping_sub_u8(byte, b'0');
+    if d < 10 { d } else { 10 }
 }

@@ -5,7 +5,7 @@ ghost use Prim.Native.Nat.{_≤_};
 ghost use lib.ListN.{length};
 ghost use Rattle.rules.specs.Limits.{argumentBytes};
 ghost use Rattle.body.specs.Bytes.{bytesOf};
-ghost use Rattle.text.specs.Machine.{letterOf, signOf, signNumber, digitOf};
+ghost use Rattle.text.specs.Machine.{signOf, signNumber};
 ghost use Rattle.text.specs.Told.{DecimalAt, Written, ExpressionAt, TailAt};
 
 // The entries of the longest body, the bytes of an entry, and so the bytes of the longest body.
@@ -16,7 +16,7 @@ pub(crate) const ENTRY: usize = 5;
 pub(crate) const MOST_BODY: usize = 315;
 
 // The number of event types.
-const LETTERS: u8 = 32;
+pub(crate) const LETTERS: u8 = 32;
 
 // A small letter less this is its event type: `a` is 26.
 pub(crate) const SMALL: u8 = 71;
@@ -50,7 +50,7 @@ pub(crate) fn expression(
         return Reach::Stuck(at);
     }
     let byte = text[at];
-    let kind = letter(byte);
+    let kind = crate::letter(byte);
     if kind < LETTERS {
         put(body, entries, 0, kind as u32);
         return Reach::To(at + 1, entries + 1);
@@ -120,7 +120,7 @@ fn read_number(text: &[u8], at: usize) -> Decimal
     if at == text.len() {
         return Decimal::Bad(at);
     }
-    let d = digit(text[at]);
+    let d = crate::digit(text[at]);
     if d > 9 {
         return Decimal::Bad(at);
     }
@@ -130,7 +130,7 @@ fn read_number(text: &[u8], at: usize) -> Decimal
         return Decimal::Value(end, 0);
     }
     while end < text.len() {
-        let e = digit(text[end]);
+        let e = crate::digit(text[end]);
         if e > 9 {
             return Decimal::Value(end, value as u32);
         }
@@ -142,23 +142,6 @@ fn read_number(text: &[u8], at: usize) -> Decimal
         end += 1;
     }
     Decimal::Value(end, value as u32)
-}
-
-// 0..31 for a letter, 32 for any other byte.
-fn letter(byte: u8) -> u8
-    ensures { λ r. ⌜ r ≡ letterOf byte ⌝ }
-{
-    if byte < b'A' {
-        LETTERS
-    } else if byte <= b'Z' {
-        byte - b'A'
-    } else if byte < b'a' {
-        LETTERS
-    } else if byte <= b'f' {
-        byte - SMALL
-    } else {
-        LETTERS
-    }
 }
 
 // The op number of an operator or of `@`, 0 for any other byte.
@@ -177,19 +160,6 @@ fn sign(byte: u8) -> u8
         5
     } else {
         0
-    }
-}
-
-// 0..9 for a digit, 10 for any other byte.
-fn digit(byte: u8) -> u8
-    ensures { λ r. ⌜ r ≡ digitOf byte ⌝ }
-{
-    if byte < b'0' {
-        10
-    } else if byte <= b'9' {
-        byte - b'0'
-    } else {
-        10
     }
 }
 

@@ -44,19 +44,19 @@ returns c =
 
 sub-copy : tie.Need-sub-copy
 sub-copy c =
-    let w = c .before .before in
+    let w = c .before in
     let e = w .before .before in
     begin-inside _ (bytes-are e) (sound-is e) (w .write-tree .ensures)
 
 part-copy-start : tie.Need-part-copy-start
 part-copy-start c =
-    let w = c .before .before .before in
+    let w = c .before .before in
     let e = w .before .before in
     begin-inside _ (bytes-are e) (sound-is e) (w .write-tree .ensures)
 
 part-copy-end : tie.Need-part-copy-end
 part-copy-end c =
-    let w = c .before .before .before in
+    let w = c .before .before in
     let e = w .before .before in
     let m = made-length _ (bytes-are e) (sound-is e) (w .write-tree .ensures) in
     omega arith
@@ -74,7 +74,7 @@ returns-3 : tie.Need-returns-3
 returns-3 c =
     let w = c .before .before .before .before .before .before .before in
     let e = w .before .before in
-    all-printed _ (bytes-are e) (sound-is e) (w .write-tree .ensures) _ _ (omega arith) (c .before .before .copy .ensures)
+    all-printed _ (bytes-are e) (sound-is e) (w .write-tree .ensures) _ _ _ (omega arith) refl (c .before .before .copy .ensures .1)
 
 pub print-pattern-spec : {M : Type 1} → statement M
 print-pattern-spec =

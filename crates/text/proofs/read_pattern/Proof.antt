@@ -1,6 +1,6 @@
 -- `text::read_pattern` meets its contract. Assumes nothing.
 use native.Mathlib.Omega.{arith}
-use mathlib.Core.Path.{refl, sym, subst}
+use mathlib.Core.Path.{refl, subst}
 use Prim.Native.Nat.{_≤_}
 use lib.ListN.{length, replicate}
 use denote.Ref.{now}
@@ -45,12 +45,17 @@ mul-need c = search needs
 returns-4 : tie.Need-returns-4
 returns-4 c = (room (no-room _ (omega arith) (whole-is (c .before .before .before .before)) _ (omega arith) (omega arith) (omega arith)), refl)
 
-slice-aggregate-copy : tie.Need-slice-aggregate-copy
-slice-aggregate-copy c = sym (made-length _ (omega arith) (whole-is (c .before .before .before .before .before .before)))
+sub-copy : tie.Need-sub-copy
+sub-copy c = search needs
+
+part-copy-start : tie.Need-part-copy-start
+part-copy-start c = search needs
+
+part-copy-end : tie.Need-part-copy-end
+part-copy-end c = omega (arith, made-length _ (omega arith) (whole-is (c .before .before .before .before .before)))
 
 copy-requires : tie.Need-copy-requires
-copy-requires c κs =
-    (omega arith, omega (arith, made-length _ (omega arith) (whole-is (c .before .before .before .before .before .before))))
+copy-requires c κs = search needs
 
 returns-5 : tie.Need-returns-5
 returns-5 c =
@@ -62,8 +67,8 @@ same-length c = search needs
 
 returns-6 : tie.Need-returns-6
 returns-6 c =
-    let p = c .before .before .before .before .before .before .before .before .before in
-    all-read _ (short-at p) (whole-is p) _ _ (omega arith) (omega arith) (omega arith) (c .before .before .copy .ensures)
+    let p = c .before .before .before .before .before .before .before .before .before .before in
+    all-read _ (short-at p) (whole-is p) _ _ _ (omega arith) (omega arith) (omega arith) refl (c .before .before .copy .ensures .1)
 
 pub read-pattern-spec : {M : Type 1} → statement M
 read-pattern-spec =
@@ -77,7 +82,9 @@ read-pattern-spec =
     returns-3
     mul-need
     returns-4
-    slice-aggregate-copy
+    sub-copy
+    part-copy-start
+    part-copy-end
     copy-requires
     returns-5
     same-length

@@ -92,7 +92,7 @@ part-copy-start : tie.Need-part-copy-start
 part-copy-start c = search needs
 
 part-copy-end : tie.Need-part-copy-end
-part-copy-end c = let m = made-length (line-is (c .before .before .before)) in omega arith
+part-copy-end c = let m = made-length (line-is (c .before .before)) in omega arith
 
 copy-requires : tie.Need-copy-requires
 copy-requires c κs = search needs
@@ -101,7 +101,7 @@ same-length : tie.Need-same-length
 same-length c = search needs
 
 returns-2 : tie.Need-returns-2
-returns-2 c = all-written (line-is (c .before .before .before .before .before .before .before)) _ _ (omega arith) (c .before .before .copy .ensures)
+returns-2 c = all-written (line-is (c .before .before .before .before .before .before .before)) _ _ _ (omega arith) refl (c .before .before .copy .ensures .1)
 
 pub write-line-spec : {M : Type 1} → statement M
 write-line-spec =

@@ -17,7 +17,7 @@ use Rattle.text.proofs.reader.+expression+tail.Lts-expression as expres
 use Rattle.text.proofs.reader.tail.Reads as tail
 use Rattle.text.proofs.reader.tail.Kinds as tail-kinds
 use Rattle.text.proofs.reader.+expression+tail.Lts-tail as tail-lts
-use Rattle.text.proofs.reader.letter.Reads as letter-reads
+use Rattle.text.proofs.letter.Reads as letter-reads
 use Rattle.text.proofs.reader.put.Reads as put-reads
 use Rattle.text.proofs.reader.read_number.Reads as read-number-reads
 use Rattle.text.proofs.reader.sign.Reads as sign-reads
