@@ -148,8 +148,8 @@ static void measure_feed(void) {
 
 static void measure_set(void) {
     uint8_t body[30], bodies[16 * 30], names[16 * 8], counts[16], file[1024];
-    uint64_t bytes = 0, words = 0, one[16 * 11], two[16 * 11], answers[16], answer = 0;
-    double best_one = 1e9, best_two = 1e9;
+    uint64_t bytes = 0, words = 0, one[16 * 11], two[16 * 11], three[16 * 11], answers[16], answer = 0;
+    double best_one = 1e9, best_two = 1e9, best_three = 1e9;
     mws_text_read((const uint8_t *)"(((S;P)@600)-Y)", 15, body, sizeof body, &bytes);
     for (int k = 0; k < 16; k++) {
         memcpy(bodies + 30 * k, body, 30);
@@ -159,18 +159,23 @@ static void measure_set(void) {
     }
     if (mws_file_write(names, 128, counts, 16, bodies, 480, file, sizeof file, &bytes) || mws_set_room(file, bytes, &words) || words != 176) exit(1);
     for (int r = 0; r < 7; r++) {
-        if (mws_set_open(file, bytes, one, words) || mws_set_open(file, bytes, two, words)) exit(1);
+        if (mws_set_open(file, bytes, one, words) || mws_set_open(file, bytes, two, words) || mws_set_open(file, bytes, three, words)) exit(1);
         double a = now();
         for (int i = 0; i < 50000; i++) mws_set_tick(one, words, 16, i, events[i], answers, 16);
         double b = now();
         for (int i = 0; i < 50000; i++)
             for (int k = 0; k < 16; k++) by_hand(two + 11 * k, 11, i, events[i], &answer);
         double c = now();
+        for (int i = 0; i < 50000; i++)
+            for (int k = 0; k < 16; k++) mws_watch_tick(three + 11 * k, 11, i, events[i], &answer);
+        double d = now();
         if (b - a < best_one * 50000) best_one = (b - a) / 50000;
         if (c - b < best_two * 50000) best_two = (c - b) / 50000;
-        if (memcmp(one, two, sizeof one) || answers[15] != answer) exit(1);
+        if (d - c < best_three * 50000) best_three = (d - c) / 50000;
+        if (memcmp(one, two, sizeof one) || memcmp(one, three, sizeof one) || answers[15] != answer) exit(1);
     }
     say("set of 16, a tick", best_one, best_two);
+    say("the same, and 16 single ticks", best_one, best_three);
 }
 
 int main(void) {
