@@ -153,16 +153,26 @@ fn late_after(n: usize, late: usize, i: usize, next: u64, t: u64) -> usize
     n
 }
 
-// Steps each of n states, a part of the slice, and writes its answer.
+// Steps each of n states, a part of the slice, and writes its answer. One stack serves them all.
 fn step_all(states: &mut [u64], n: usize, t: u64, events: u32, ends: &[usize], answers: &mut [u64])
     requires { ⌜ SetReady n (now states) t (now ends) (now answers) ⌝ }
     ensures { λ _. ⌜ SetDone n (now (states .entry)) t events (now (answers .entry)) (now (states .exit)) (now (answers .exit)) ⌝ }
 {
+    let mut stack = [0u64; 32];
+    let mut base = [0usize; 33];
+    let mut starts = [0u64; 62];
     let mut k: usize = 0;
     while k < n {
         let at = ends[k];
         let end = ends[k + 1];
-        answers[k] = crate::walk::step(&mut states[at..end], t, events);
+        answers[k] = crate::walk::step_over(
+            &mut states[at..end],
+            t,
+            events,
+            &mut stack,
+            &mut base,
+            &mut starts,
+        );
         k += 1;
     }
 }

@@ -42,8 +42,8 @@ fn step_large(state: &mut [u64], t: u64, events: u32) -> u64
     step_over(state, t, events, &mut answers, &mut base, &mut starts)
 }
 
-// Steps the entries in order, with a stack in the arrays: the possible starts at place k are starts[base[k]..base[k + 1]].
-fn step_over(
+// Steps the entries in order, with a stack in the arrays: the possible starts at place k are starts[base[k]..base[k + 1]]. They may be lent again.
+pub(crate) fn step_over(
     state: &mut [u64],
     t: u64,
     events: u32,
@@ -52,7 +52,7 @@ fn step_over(
     starts: &mut [u64],
 ) -> u64
     requires { ⌜ StepsReady (now state) t × StackFor (getD (now state) 0 0) (now answers) (now base) (now starts) ⌝ }
-    ensures { λ r. ⌜ StepsDone (now (state .entry)) t events (now (state .exit)) r ⌝ }
+    ensures { λ r. ⌜ StepsDone (now (state .entry)) t events (now (state .exit)) r × (getD (now (base .exit)) 0 0 ≡ 0) ⌝ }
 {
     let n = state[0] as usize;
     let mut at = 2 + n;

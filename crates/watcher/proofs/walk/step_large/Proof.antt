@@ -24,7 +24,7 @@ same-length : tie.Need-same-length
 same-length c = search needs
 
 returns : tie.Need-returns
-returns c = c .before .before .before .before .before .step-over .ensures
+returns c = c .before .before .before .before .before .step-over .ensures .0
 
 pub step-large-spec : {M : Type 1} → statement M
 step-large-spec =

@@ -216,7 +216,7 @@ same-length-4 : tie.Need-same-length-4 Inv-loop μ-loop
 same-length-4 c = search needs
 
 returns : tie.Need-returns Inv-loop μ-loop
-returns c = stepping-end (c .before .before .loop .inv) (c .before .loop-test .left)
+returns c = (stepping-end (c .before .before .loop .inv) (c .before .loop-test .left), c .before .before .loop .inv .laid .first)
 
 pub step-over-spec : {M : Type 1} → statement M
 step-over-spec =

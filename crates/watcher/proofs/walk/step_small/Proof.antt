@@ -23,7 +23,7 @@ same-length : tie.Need-same-length
 same-length c = search needs
 
 returns : tie.Need-returns
-returns c = c .before .before .before .before .before .step-over .ensures
+returns c = c .before .before .before .before .before .step-over .ensures .0
 
 pub step-small-spec : {M : Type 1} → statement M
 step-small-spec =
