@@ -1,16 +1,17 @@
 -- Bytes and entries: each gives the other back. An entry is read from its own bytes, and the entries after it from what follows them.
 -- Assumes nothing.
-use Prim.Native.Nat.{ℕ, zero, suc, _+_, _*_, _<_, _≤_, _^_}
+use Prim.Native.Nat.{ℕ, zero, suc, _+_, _-_, _*_, _<_, _≤_, _^_}
 use mathlib.Core.Path.{_≡_, refl, sym, ap, ap₂, subst, _∙_}
 use mathlib.Core.Bool.{Bool, true, false, cond}
 use mathlib.Core.List.{List, [], _∷_, _++_}
+use native.Mathlib.Decide.{decLe}
 use native.Mathlib.Nat.{zero-mul, pow-le-pow-right}
 use native.Mathlib.Numerals.{add-one}
 use native.Mathlib.Omega.{arith}
-use lib.Dec.{eqb, ltb}
+use lib.Dec.{eqb, ltb, leb}
 use lib.ListN.{length, getD, take, drop, length-append, length-drop, take-append-drop}
 use lib.Seq.{getD-drop, drop-at}
-use borrow.Author.Tests.{lt-ltb, eqb-true, eqb-false, ltb-true}
+use borrow.Author.Tests.{lt-ltb, le-leb, lt-leb, eqb-true, eqb-false, ltb-true}
 use Rattle.rules.specs.declared.Op.the-variants.{Either, Both, Without, Chain}
 use Rattle.rules.specs.Limits.{letters}
 use Rattle.rules.specs.Lists.{All}
@@ -40,15 +41,27 @@ length-entries width [] = omega arith
 length-entries width (s ∷ ss) =
     length-append (entryBytes width s) (entriesBytes width ss) ∙ omega (arith, length-entry width s, length-entries width ss)
 
+-- an entry after the first ends within a body if it does so within the bytes after the first
+ends-next : (width : ℕ) (b : List ℕ) (i : ℕ)
+    → leb ((i + 1 + 1) * (width + 1)) (length b) ≡ leb ((i + 1) * (width + 1)) (length (drop (width + 1) b))
+ends-next width b i = rw (length-drop (width + 1) b) (go (decLe ((i + 1 + 1) * (width + 1)) (length b)))
+  where
+    go : Dec ((i + 1 + 1) * (width + 1) ≤ length b) → leb ((i + 1 + 1) * (width + 1)) (length b) ≡ leb ((i + 1) * (width + 1)) (length b - (width + 1))
+    go (yes h) = le-leb ((i + 1 + 1) * (width + 1)) (length b) h ∙ sym (le-leb ((i + 1) * (width + 1)) (length b - (width + 1)) (omega arith))
+    go (no h) =
+        lt-leb ((i + 1 + 1) * (width + 1)) (length b) (omega arith) ∙ sym (lt-leb ((i + 1) * (width + 1)) (length b - (width + 1)) (omega arith))
+
 -- the entries after the first are those of the bytes after it
 entry-next : (width : ℕ) (b : List ℕ) (i : ℕ) → entryAt width b (i + 1) ≡ entryAt width (drop (width + 1) b) i
 unfolding entryAt
 entry-next width b i =
     let p : (i + 1) * (width + 1) ≡ width + 1 + i * (width + 1) = omega arith in
     let q : (i + 1) * (width + 1) + 1 ≡ width + 1 + (i * (width + 1) + 1) = omega arith in
-    ap₂ (entryOf width)
+    ap₂ (λ (t : Bool) (s : Entry). cond t s Wrong)
+    (ends-next width b i)
+    (ap₂ (entryOf width)
     (ap (λ (k : ℕ). getD b k 0) p ∙ sym (getD-drop (width + 1) b (i * (width + 1)) 0))
-    (ap (valueAt width b) q ∙ value-drop width b (width + 1) (i * (width + 1) + 1))
+    (ap (valueAt width b) q ∙ value-drop width b (width + 1) (i * (width + 1) + 1)))
 
 entries-next : (width : ℕ) (b : List ℕ) (i n : ℕ) → entriesBy (entryAt width b) (i + 1) n ≡ entriesBy (entryAt width (drop (width + 1) b)) i n
 unfolding entriesBy
@@ -56,13 +69,13 @@ entries-next width b i zero = refl
 entries-next width b i (suc n) = ap₂ (λ (s : Entry) (ss : List Entry). s ∷ ss) (entry-next width b i) (entries-next width b (i + 1) n)
 
 -- the first entry, by its op and its argument
-first-entry : (width : ℕ) (b : List ℕ) → entryAt width b 0 ≡ entryOf width (getD b 0 0) (valueAt width b 1)
+first-entry : (width : ℕ) (b : List ℕ) → width + 1 ≤ length b → entryAt width b 0 ≡ entryOf width (getD b 0 0) (valueAt width b 1)
 unfolding entryAt
-first-entry width b = simp zero-mul
+first-entry width b h = rw (le-leb ((0 + 1) * (width + 1)) (length b) (omega arith)) (simp zero-mul)
 
 first-bytes : (width op n : ℕ) (rest : List ℕ) → n < 256 ^ width → entryAt width (op ∷ (bytesOf width n ++ rest)) 0 ≡ entryOf width op n
 first-bytes width op n rest h =
-    first-entry width (op ∷ (bytesOf width n ++ rest))
+    first-entry width (op ∷ (bytesOf width n ++ rest)) (omega (arith, length-append (bytesOf width n) rest, length-bytes width n))
     ∙ ap (entryOf width op) (value-drop width (op ∷ (bytesOf width n ++ rest)) 1 0 ∙ value-bytes width n rest h)
 
 many : (width : ℕ) → 1 ≤ width → 256 ≤ 256 ^ width
@@ -118,7 +131,12 @@ entries-fit wrong bound f h i (suc n) = (h i, entries-fit wrong bound f h (i + 1
 
 pub read-fits : (width : ℕ) (b : List ℕ) (i : ℕ) → Fits (Unit {0}) (256 ^ width) (entryAt width b i)
 unfolding entryAt
-read-fits width b i = entry-fits width _ _
+read-fits width b i = go (leb ((i + 1) * (width + 1)) (length b))
+  where
+    go : (t : Bool) → Fits (Unit {0}) (256 ^ width)
+        (cond t (entryOf width (getD b (i * (width + 1)) 0) (valueAt width b (i * (width + 1) + 1))) Wrong)
+    go true = entry-fits width _ _
+    go false = tt
 
 -- an op number from 1 to 4 is that of its operator
 op-number : (op : ℕ) → (op ≡ 0 → ⊥) → op < 5 → opNumber (opOf op) ≡ op
@@ -167,8 +185,8 @@ bytes-entries width (suc n) [] w l f = absurd (omega arith)
 bytes-entries width (suc n) (x ∷ b) w l f =
     let c : List ℕ = x ∷ b in
     let first : entryBytes width (entryAt width c 0) ≡ x ∷ take width b =
-    rw (first-entry width c)
-    (bytes-entry width x (valueAt width c 1) (subst (Fits ⊥ (256 ^ width)) (first-entry width c) (f .0))
+    rw (first-entry width c (omega arith))
+    (bytes-entry width x (valueAt width c 1) (subst (Fits ⊥ (256 ^ width)) (first-entry width c (omega arith)) (f .0))
     ∙ ap (λ (r : List ℕ). x ∷ r) (bytes-value width c 1 w (omega arith))) in
     let rest : entriesBytes width (entriesBy (entryAt width c) 1 n) ≡ drop (width + 1) c =
     ap (entriesBytes width) (entries-next width c 0 n)

@@ -3,7 +3,7 @@
 use Prim.Native.Nat.{ℕ, zero, suc, _+_, _*_, _/_, _^_}
 use mathlib.Core.Bool.{cond}
 use mathlib.Core.List.{List, [], _∷_, _++_}
-use lib.Dec.{ltb, eqb}
+use lib.Dec.{ltb, leb, eqb}
 use lib.ListN.{length, getD}
 use Rattle.rules.specs.declared.Op.{Op}
 use Rattle.rules.specs.declared.Op.the-variants.{Either, Both, Without, Chain}
@@ -45,9 +45,11 @@ unfoldable pub entriesBy : (ℕ → Entry) → ℕ → ℕ → List Entry
 entriesBy f i zero = []
 entriesBy f i (suc n) = f i ∷ entriesBy f (i + 1) n
 
--- entry i of a body, and all its entries
+-- entry i of a body, which is wrong if the body ends before it does
 unfoldable pub entryAt : ℕ → List ℕ → ℕ → Entry
-entryAt width b i = entryOf width (getD b (i * (width + 1)) 0) (valueAt width b (i * (width + 1) + 1))
+entryAt width b i =
+    cond (leb ((i + 1) * (width + 1)) (length b)) (entryOf width (getD b (i * (width + 1)) 0) (valueAt width b (i * (width + 1) + 1))) Wrong
 
+-- all entries of a body
 unfoldable pub entries : ℕ → List ℕ → List Entry
 entries width b = entriesBy (entryAt width b) 0 (length b / (width + 1))

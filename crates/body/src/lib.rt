@@ -2,7 +2,7 @@
 use refusal::Refusal;
 use rules::Op;
 ghost use mathlib.Core.Path.{_≡_};
-ghost use Prim.Native.Nat.{_+_, _*_, _<_, _≤_};
+ghost use Prim.Native.Nat.{_+_, _<_};
 ghost use lib.ListN.{length};
 ghost use Rattle.rules.specs.Limits.{argumentBytes};
 ghost use Rattle.body.specs.Bytes.{valueAt};
@@ -51,11 +51,11 @@ pub fn check_body(body: &[u8]) -> BodyCheck
     }
     let entries = bytes / ENTRY_BYTES;
     let mut i: usize = 0;
-    let mut trees: u64 = 0;
+    let mut trees: u32 = 0;
     while i < entries {
         match depth_after(entry_at(body, i), trees) {
             Depth::To(left) => {
-                trees = left;
+                trees = left as u32;
             }
             Depth::Lacks => {
                 return BodyCheck::Refused(Refusal::Body(0, i));
@@ -70,11 +70,13 @@ pub fn check_body(body: &[u8]) -> BodyCheck
     }
 }
 
-// Entry i of a body.
+// Entry i of a body, which is wrong if the body ends before it does.
 pub fn entry_at(body: &[u8], i: usize) -> Entry
-    requires { ⌜ i * 5 + 4 < length (now body) ⌝ }
     ensures { λ r. ⌜ r ≡ entryAt argumentBytes (now (body .entry)) i ⌝ }
 {
+    if i >= body.len() / ENTRY_BYTES {
+        return Entry::Wrong;
+    }
     let at = i * ENTRY_BYTES;
     decode(wide(body[at]), argument_at(body, at + 1))
 }
@@ -137,26 +139,25 @@ fn op_of(op: u64) -> Op
 }
 
 // How many trees an entry leaves of d.
-pub fn depth_after(s: Entry, d: u64) -> Depth
-    requires { ⌜ d < 64 ⌝ }
+pub fn depth_after(s: Entry, d: u32) -> Depth
     ensures { λ r. ⌜ r ≡ depthOf s d ⌝ }
 {
     match s {
-        Entry::Letter(_) => Depth::To(d + 1),
+        Entry::Letter(_) => Depth::To(d as u64 + 1),
         Entry::Pair(_) => {
             if 2 <= d {
-                Depth::To(d - 1)
+                Depth::To(d as u64 - 1)
             } else {
                 Depth::Lacks
             }
         }
-        Entry::Within(_) => { if 1 <= d { Depth::To(d) } else { Depth::Lacks } }
+        Entry::Within(_) => {
+            if 1 <= d {
+                Depth::To(d as u64)
+            } else {
+                Depth::Lacks
+            }
+        }
         Entry::Wrong => Depth::Lacks,
     }
 }
-
-// Nothing to run: what is required here is known from here on.
-pub fn at_least(d: usize, n: usize)
-    requires { ⌜ n ≤ d ⌝ }
-    ensures { λ _. ⌜ n ≤ d ⌝ }
-{}

@@ -1,6 +1,6 @@
 -- `body::check_body` meets its contract. The loop's invariant: there are no more trees than entries passed, and the entries left decide
 -- what the whole body is answered. The measure is the number of entries left. Assumes nothing.
-use Prim.Native.Nat.{_-_, _/_, _≤_}
+use Prim.Native.Nat.{_+_, _-_, _/_, _≤_}
 use mathlib.Core.Path.{_≡_}
 use native.Mathlib.Nat.{sub-zero}
 use native.Mathlib.Omega.{arith}
@@ -51,6 +51,17 @@ depth-after-requires c κs = search needs
 enum-known-left : tie.Need-enum-known-left Inv-loop μ-loop
 enum-known-left c = search needs
 
+-- an entry that finds its operands leaves at most one tree more
+turn-le : (c : tie.After-known-told Inv-loop μ-loop)
+    → let k = c .before .before .before .before .before .before in c .before .left .given .0 .0 ≤ k .loop .trees + 1
+turn-le c =
+    let k = c .before .before .before .before .before .before in
+    let s = entryAt argumentBytes (k .before .before .before .before .before .args .body .now) (k .loop .i) in
+    step-le s (k .loop .trees) (c .before .left .given .0 .0) (cc)
+
+cast-trees : tie.Need-cast-trees Inv-loop μ-loop
+cast-trees c = omega (arith, turn-le c)
+
 enum-told : tie.Need-enum-told Inv-loop μ-loop
 enum-told c = search needs
 
@@ -78,7 +89,7 @@ loop-again c =
     let e = c .before .left .given .0 .0 in
     let q : depthOf (entryAt argumentBytes b i) d ≡ To e = cc in (
       omega arith,
-      omega (arith, step-le (entryAt argumentBytes b i) d e q),
+      omega (arith, turn-le c),
       rw (scan-turn (entryAt argumentBytes b) (length b / 5) i d (omega arith), q) at (k .loop .inv .2),
     )
 
@@ -101,6 +112,7 @@ check-body-spec =
     entry-at-requires
     depth-after-requires
     enum-known-left
+    cast-trees
     enum-told
     returns-4
     add-i

@@ -9,14 +9,14 @@ use Rattle.body.proofs.depth_after.Tie as tie
 enum-told : tie.Need-enum-told
 enum-told c = search needs
 
-add-t4 : tie.Need-add-t4
-add-t4 c = search needs
+add-t5 : tie.Need-add-t5
+add-t5 c = search needs
 
 enum-told-2 : tie.Need-enum-told-2
 enum-told-2 c = search needs
 
-sub-t7 : tie.Need-sub-t7
-sub-t7 c = search needs
+sub-t9 : tie.Need-sub-t9
+sub-t9 c = search needs
 
 enum-told-3 : tie.Need-enum-told-3
 enum-told-3 c = search needs
@@ -53,9 +53,9 @@ depth-after-spec =
     tie.close
     (tie.spec
     enum-told
-    add-t4
+    add-t5
     enum-told-2
-    sub-t7
+    sub-t9
     enum-told-3
     enum-told-4
     returns
