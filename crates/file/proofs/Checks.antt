@@ -19,7 +19,6 @@ use Rattle.file.specs.declared.FileCheck.the-variants.{Sound, Refused}
 use Rattle.file.specs.Contents.{named, below, bodyBytes, nameBytes, contentsBytes, bodiesAt, total}
 use Rattle.file.specs.Check.{entryKept, brokenEntry, brokenBody, onEntry, bodiesCheck, partsCheck}
 use Rattle.file.specs.Check.{countsIn, contentKept, brokenContent, restCheck, checkOf}
-use Rattle.file.specs.Ready.{Small}
 
 -- an entry refuses, or what follows is asked
 pub entry-refused : (o : Option ℕ) (r : Refusal) (rest : FileCheck) → onEntry o Sound ≡ Refused r → Refused r ≡ onEntry o rest
@@ -240,28 +239,10 @@ contents-first before c k offset i p =
     cond-none (contentKept before c offset)
     (brokenContent (take nameBytes c) (drop contentsBytes c) k (offset + bodyBytes (getD c 10 0)) (i + 1)) i p
 
-pub contents-small : (before c : List ℕ) (k offset i : ℕ) → brokenContent before c k offset i ≡ none → (j : ℕ) → getD (countsIn c k) j 0 ≤ mostEntries
-unfolding countsIn
-contents-small before c zero offset i p j = omega arith
-contents-small before c (suc k) offset i p zero =
-    entry-kept _ _ _ (content-kept before c offset (contents-first before c k offset i p .0) .entry) .most
-contents-small before c (suc k) offset i p (suc j) = contents-small _ _ k _ _ (contents-first before c k offset i p .1) j
-
 pub length-counts : (c : List ℕ) (k : ℕ) → length (countsIn c k) ≡ k
 unfolding countsIn
 length-counts c zero = refl
 length-counts c (suc k) = ap suc (length-counts (drop contentsBytes c) k)
-
--- numbers of entries that broke no rule are small
-pub parts-small : (names counts : List ℕ) → length counts ≤ mostPatterns → onEntry (brokenEntry [] names counts 0) Sound ≡ Sound → Small counts
-parts-small names counts h p = record { few = h; small = entries-small [] names counts 0 (entry-sound _ p) }
-
-pub rest-small : (count : ℕ) (f : List ℕ) → count ≤ mostPatterns → onEntry (brokenContent [] f count (bodiesAt count) 0) Sound ≡ Sound
-    → Small (countsIn f count)
-rest-small count f h p = record {
-  few = omega (arith, length-counts f count);
-  small = contents-small [] f count (bodiesAt count) 0 (entry-sound _ p);
-}
 
 -- the numbers of entries, as they are lent from the copy
 pub counts-lent : (count : ℕ) (f rest counts : List ℕ) → counts ≡ countsIn f count ++ rest → take (count - 0) counts ≡ countsIn f count

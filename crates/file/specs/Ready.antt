@@ -2,18 +2,13 @@
 use Prim.Native.Nat.{ℕ, _*_, _≤_}
 use mathlib.Core.Path.{_≡_}
 use mathlib.Core.List.{List}
-use lib.ListN.{length, getD}
-use Rattle.rules.specs.Limits.{mostEntries, mostPatterns}
+use lib.ListN.{length}
+use Rattle.rules.specs.Limits.{mostPatterns}
 use Rattle.file.specs.Contents.{contentsBytes, nameBytes, total}
 
 -- at most 16 numbers of entries
 abbrev pub Few : List ℕ → Type 0
 Few counts = length counts ≤ mostPatterns
-
--- and each is at most 63
-pub record Small (counts : List ℕ) : Type 0 where
-  pub few : Few counts
-  pub small : (k : ℕ) → getD counts k 0 ≤ mostEntries
 
 -- contents that are not cut short
 pub record Held (count : ℕ) (f : List ℕ) : Type 0 where
@@ -25,9 +20,8 @@ abbrev pub Named : List ℕ → List ℕ → Type 0
 Named names counts = length names ≡ nameBytes * length counts
 
 -- bodies that end where their numbers of entries say
-pub record Whole (counts bodies : List ℕ) : Type 0 where
-  pub counted : Small counts
-  pub full : length bodies ≡ total counts
+abbrev pub Whole : List ℕ → List ℕ → Type 0
+Whole counts bodies = length bodies ≡ total counts
 
 -- a name, and the bytes of an entry of the contents
 pub record EntryReady (name entry : List ℕ) : Type 0 where

@@ -13,7 +13,7 @@ ghost use Prim.Native.Nat.{_<_};
 ghost use Rattle.file.specs.declared.FileCheck.the-variants.{Sound};
 ghost use Rattle.file.specs.Contents.{total};
 ghost use Rattle.file.specs.Check.{entryKept, onEntry, brokenEntry, brokenBody, bodiesCheck, partsCheck};
-ghost use Rattle.file.specs.Ready.{Few, Small, Named, Whole};
+ghost use Rattle.file.specs.Ready.{Few, Named, Whole};
 
 // Checks the names, the numbers of entries and the bodies that a writer is given.
 pub(crate) fn check_parts(names: &[u8], counts: &[u8], bodies: &[u8]) -> FileCheck
@@ -72,7 +72,7 @@ pub(crate) fn entry_kept(before: &[u8], name: &[u8], n: u8) -> bool
 
 // Checks bodies that lie end to end: that they end where their numbers of entries say, and each of them.
 pub(crate) fn check_bodies(counts: &[u8], bodies: &[u8]) -> FileCheck
-    requires { ⌜ Small (now counts) ⌝ }
+    requires { ⌜ Few (now counts) ⌝ }
     ensures { λ r. ⌜ r ≡ bodiesCheck (now (counts .entry)) (now (bodies .entry)) ⌝ }
 {
     if bodies.len() != all_bytes(counts) {
@@ -116,11 +116,11 @@ fn broken_body(counts: &[u8], bodies: &[u8]) -> FileCheck
         let n = wide(counts[b]);
         let end = at + n * ENTRY_BYTES;
         let mut e: usize = 0;
-        let mut trees: u64 = 0;
+        let mut trees: u32 = 0;
         while e < n {
             match body::depth_after(body::entry_at(&bodies[at..end], e), trees) {
                 Depth::To(left) => {
-                    trees = left;
+                    trees = left as u32;
                 }
                 Depth::Lacks => {
                     break 'bodies FileCheck::Refused(Refusal::Body(b, e));

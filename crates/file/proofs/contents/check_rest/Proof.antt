@@ -2,7 +2,8 @@
 use mathlib.Core.Path.{sym, ap₂, _∙_}
 use Rattle.file.specs.Check.{bodiesCheck}
 use Rattle.file.proofs.Turns.{rest-part}
-use Rattle.file.proofs.Checks.{rest-none, rest-many, rest-short, rest-entry, rest-bodies, rest-small, counts-lent}
+use Rattle.file.proofs.Checks.{rest-none, rest-many, rest-short, rest-entry, rest-bodies, length-counts, counts-lent}
+use native.Mathlib.Omega.{arith}
 use borrow.Author.Needs.{needs}
 use Rattle.file.proofs.contents.check_rest.Statement.{statement}
 use Rattle.file.proofs.contents.check_rest.Tie as tie
@@ -55,10 +56,7 @@ part-check-bodies-end-2 c = search needs
 check-bodies-requires : tie.Need-check-bodies-requires
 check-bodies-requires c κs =
     let q = c .before .before .before .before in
-    let n = q .before .before in
-    let m = n .before .before in
-    rw (counts-lent _ _ _ _ (q .copy-counts .ensures))
-    (rest-small _ _ (m .before .before .if2 .left) (sym (m .check-contents .ensures) ∙ n .enum-told .given .1))
+    rw (counts-lent _ _ _ _ (q .copy-counts .ensures)) (simp length-counts (omega arith))
 
 returns-4 : tie.Need-returns-4
 returns-4 c =

@@ -36,7 +36,7 @@ at-body w = record {
 }
 
 bodies-holds : tie.Need-bodies-holds Inv-loop μ-loop Inv-bodies μ-bodies
-bodies-holds c = searched-none _ _ (c .before .before .pre .full)
+bodies-holds c = searched-none _ _ (c .before .before .pre)
 
 shared-slice-read-wide : tie.Need-shared-slice-read-wide Inv-loop μ-loop Inv-bodies μ-bodies
 shared-slice-read-wide c = search needs
@@ -63,16 +63,19 @@ part-entry-at-end : tie.Need-part-entry-at-end Inv-loop μ-loop Inv-bodies μ-bo
 part-entry-at-end c = body-ends (at-body (c .before .before))
 
 entry-at-requires : tie.Need-entry-at-requires Inv-loop μ-loop Inv-bodies μ-bodies
-entry-at-requires c κs = omega (arith, body-long (at-body (c .before .before .before)))
+entry-at-requires c κs = search needs
 
 depth-after-requires : tie.Need-depth-after-requires Inv-loop μ-loop Inv-bodies μ-bodies
-depth-after-requires c κs =
-    let k = c .before .before .before in
-    let o = k .before .before .before .before in
-    omega (arith, k .loop .inv .few, k .before .wide .ensures, o .before .before .before .pre .counted .small (o .bodies .b))
+depth-after-requires c κs = search needs
 
 enum-known-left : tie.Need-enum-known-left Inv-loop μ-loop Inv-bodies μ-bodies
 enum-known-left c = search needs
+
+cast-trees : tie.Need-cast-trees Inv-loop μ-loop Inv-bodies μ-bodies
+cast-trees c =
+    let k = c .before .before .before .before .before .before .before in
+    let s = scanned-more (k .loop .inv) (omega arith) (c .before .left .given .0 .0) (cc) in
+    omega (arith, s .upto, s .few, k .before .wide .ensures)
 
 enum-told : tie.Need-enum-told Inv-loop μ-loop Inv-bodies μ-bodies
 enum-told c = search needs
@@ -130,6 +133,7 @@ broken-body-spec =
     entry-at-requires
     depth-after-requires
     enum-known-left
+    cast-trees
     enum-told
     add-e
     loop-less

@@ -1,6 +1,6 @@
 -- `file::parts::check_parts` meets its contract: each way out is one of the law for its answer. Assumes nothing.
 use mathlib.Core.Path.{sym, _∙_}
-use Rattle.file.proofs.Checks.{parts-none, parts-many, parts-other, parts-entry, parts-bodies, parts-small}
+use Rattle.file.proofs.Checks.{parts-none, parts-many, parts-other, parts-entry, parts-bodies}
 use borrow.Author.Needs.{needs}
 use Rattle.file.proofs.parts.check_parts.Statement.{statement}
 use Rattle.file.proofs.parts.check_parts.Tie as tie
@@ -27,9 +27,7 @@ enum-told : tie.Need-enum-told
 enum-told c = search needs
 
 check-bodies-requires : tie.Need-check-bodies-requires
-check-bodies-requires c κs =
-    let m = c .before .before in
-    parts-small _ _ (m .before .before .if2 .left) (sym (m .check-entries .ensures) ∙ c .enum-told .given .1)
+check-bodies-requires c κs = search needs
 
 returns-4 : tie.Need-returns-4
 returns-4 c =
