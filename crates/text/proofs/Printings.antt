@@ -35,7 +35,6 @@ module _ (b : List ℕ) (w : Bytes b) (p : checkOf argumentBytes b ≡ Sound) wh
     others = [];
     ends = all-entries;
     proper = is-body .body .bodied .proper;
-    held = omega arith;
     room = text-fits;
     inside = omega arith;
   }

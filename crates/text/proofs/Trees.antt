@@ -163,7 +163,6 @@ module _ (b : List ℕ) (k end : ℕ) where
         others = r .others ++ postfix (parts .left);
         ends = parts .ends;
         proper = both-proper .1;
-        held = omega (arith, r .held);
         room = omega (arith, both-room);
         inside = omega (arith, r .inside);
       }
@@ -184,7 +183,6 @@ module _ (b : List ℕ) (k end : ℕ) where
           others = r .others;
           ends = rw (right-tree .first-entry) (parts .starts);
           proper = both-proper .0;
-          held = omega (arith, r .held, left-falls);
           room = omega (arith, right-tree .text .room, both-room);
           inside = omega (arith, right-tree .text .room, r .inside);
         }
@@ -238,7 +236,6 @@ module _ (b : List ℕ) (k end : ℕ) where
           others = r .others;
           ends = part .ends;
           proper = part-proper .0;
-          held = omega (arith, r .held);
           room = omega (arith, w .room, part-room);
           inside = omega (arith, w .room, r .inside);
         }

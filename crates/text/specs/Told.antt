@@ -119,7 +119,6 @@ pub record TreeReady (b : List ℕ) (k end : ℕ) : Type 0 where
   pub others : List Entry
   pub ends : Ends b k others tree
   pub proper : Proper numbers tree
-  pub held : k * entryLength ≤ length b
   pub room : length (render tree) ≤ end
   pub inside : end ≤ mostPrinted
 

@@ -66,7 +66,7 @@ sub-last : (t : ℕ) → lts.Need-sub-last (calls t) (at-tree t) write-tree.Post
 sub-last t c = some-entry _ _ _ (c .before .pre .1)
 
 entry-at-requires : (t : ℕ) → lts.Need-entry-at-requires (calls t) (at-tree t) write-tree.Post
-entry-at-requires t c κs = omega (arith, some-entry _ _ _ (c .before .pre .1), c .before .pre .1 .held)
+entry-at-requires t c κs = search needs
 
 enum-known-entry : (t : ℕ) → lts.Need-enum-known-entry (calls t) (at-tree t) write-tree.Post
 enum-known-entry t c = search needs
