@@ -83,13 +83,11 @@ fn fill_rows(body: &[u8], events: &[u32], rows: &mut [u64])
                 d += 1;
             }
             Entry::Pair(op) => {
-                body::at_least(d, 2);
                 fill_pair(rows, op, tops[d - 2], tops[d - 1], k);
                 tops[d - 2] = k;
                 d -= 1;
             }
             Entry::Within(limit) => {
-                body::at_least(d, 1);
                 fill_within(rows, limit, tops[d - 1], k);
                 tops[d - 1] = k;
             }

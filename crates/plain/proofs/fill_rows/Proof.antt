@@ -1,6 +1,6 @@
 -- `plain::fill_rows` meets its contract: the invariant is `Filling`, the measure the entries left. Assumes nothing.
 use mathlib.Core.Path.{_≡_, refl, sym, _∙_}
-use Prim.Native.Nat.{_-_, _<_}
+use Prim.Native.Nat.{_-_, _≤_, _<_}
 use Rattle.rules.specs.Limits.{argumentBytes}
 use Rattle.body.specs.declared.Entry.the-variants.{Letter, Pair, Within}
 use Rattle.body.proofs.Walk.{sound-start}
@@ -17,7 +17,7 @@ Inv-loop body events rows₀ n tops₀ d₀ i₀ rows tops d i = Filling body ev
 abbrev μ-loop : tie.MeasureT-loop
 μ-loop body events rows₀ n tops₀ d₀ i₀ rows tops d i = n - i
 
--- what the entry at i is, in each arm
+-- what the entry at i is, in each arm, and that its operands are there
 letter-entry : (c : tie.After-known-told Inv-loop μ-loop)
     → entryOfBody (c .before .before .before .before .before .before .before .before .before .args .body .now) (c .before .before .before .before .before .loop .i)
     ≡ Letter (c .before .entry .given .0 .0)
@@ -28,10 +28,16 @@ pair-entry : (c : tie.After-known-told2 Inv-loop μ-loop)
     ≡ Pair (c .before .entry2 .given .0 .0)
 pair-entry c = sym (c .before .before .before .entry-at .ensures) ∙ c .before .entry2 .given .1
 
+pair-two : (c : tie.After-known-told2 Inv-loop μ-loop) → 2 ≤ c .before .before .before .before .before .loop .d
+pair-two c = pair-places _ _ _ _ _ _ _ _ (c .before .before .before .before .before .loop .inv) (omega arith) _ (pair-entry c) .0
+
 within-entry : (c : tie.After-known-told3 Inv-loop μ-loop)
     → entryOfBody (c .before .before .before .before .before .before .before .before .before .args .body .now) (c .before .before .before .before .before .loop .i)
     ≡ Within (c .before .entry3 .given .0 .0)
 within-entry c = sym (c .before .before .before .entry-at .ensures) ∙ c .before .entry3 .given .1
+
+within-one : (c : tie.After-known-told3 Inv-loop μ-loop) → 1 ≤ c .before .before .before .before .before .loop .d
+within-one c = within-place _ _ _ _ _ _ _ _ (c .before .before .before .before .before .loop .inv) (omega arith) _ (within-entry c) .0
 
 loop-holds : tie.Need-loop-holds Inv-loop μ-loop
 loop-holds c =
@@ -40,9 +46,7 @@ loop-holds c =
     filling-none _ _ _ _ _ (w .most) refl (s .pre .room) (s .pre .short) (w .rest)
 
 entry-at-requires : tie.Need-entry-at-requires Inv-loop μ-loop
-entry-at-requires c κs =
-    let s = c .before .before .before .before .before in
-    omega (arith, sound-start argumentBytes (s .args .body .now) (s .pre .sound) .full)
+entry-at-requires c κs = search needs
 
 add-i : tie.Need-add-i Inv-loop μ-loop
 add-i c = omega arith
@@ -78,13 +82,8 @@ loop-again c =
 enum-known-entry-2 : tie.Need-enum-known-entry-2 Inv-loop μ-loop
 enum-known-entry-2 c = search needs
 
-at-least-requires : tie.Need-at-least-requires Inv-loop μ-loop
-at-least-requires c κs =
-    let l = c .before .before .before .before .before .loop in
-    pair-places _ _ _ _ _ _ _ _ (l .inv) (omega arith) _ (pair-entry c) .0
-
 sub-fill-pair : tie.Need-sub-fill-pair Inv-loop μ-loop
-sub-fill-pair c = omega arith
+sub-fill-pair c = omega (arith, pair-two (c .before))
 
 mul-fill-pair : tie.Need-mul-fill-pair Inv-loop μ-loop
 mul-fill-pair c = omega arith
@@ -93,7 +92,7 @@ array-read-fill-pair : tie.Need-array-read-fill-pair Inv-loop μ-loop
 array-read-fill-pair c = omega arith
 
 sub-fill-pair-2 : tie.Need-sub-fill-pair-2 Inv-loop μ-loop
-sub-fill-pair-2 c = omega arith
+sub-fill-pair-2 c = omega (arith, pair-two (c .before))
 
 mul-fill-pair-2 : tie.Need-mul-fill-pair-2 Inv-loop μ-loop
 mul-fill-pair-2 c = omega arith
@@ -103,13 +102,13 @@ array-read-fill-pair-2 c = omega arith
 
 fill-pair-requires : tie.Need-fill-pair-requires Inv-loop μ-loop
 fill-pair-requires c κs =
-    let k = c .before .before in
+    let k = c .before in
     let l = k .before .before .before .before .before .loop in
     let places = pair-places _ _ _ _ _ _ _ _ (l .inv) (omega arith) _ (pair-entry k) in
     (places .1, places .2, omega (arith, l .inv .room, l .inv .same))
 
 sub-tops : tie.Need-sub-tops Inv-loop μ-loop
-sub-tops c = omega arith
+sub-tops c = omega (arith, pair-two (c .before .before .before .before))
 
 mul-tops-2 : tie.Need-mul-tops-2 Inv-loop μ-loop
 mul-tops-2 c = omega arith
@@ -118,7 +117,7 @@ array-write-tops-2 : tie.Need-array-write-tops-2 Inv-loop μ-loop
 array-write-tops-2 c = omega arith
 
 sub-d : tie.Need-sub-d Inv-loop μ-loop
-sub-d c = omega arith
+sub-d c = omega (arith, pair-two (c .before .before .before .before))
 
 loop-less-2 : tie.Need-loop-less-2 Inv-loop μ-loop
 loop-less-2 c = omega arith
@@ -126,20 +125,15 @@ loop-less-2 c = omega arith
 loop-again-2 : tie.Need-loop-again-2 Inv-loop μ-loop
 loop-again-2 c =
     let f = c .before .before in
-    let k = f .before .before .before in
+    let k = f .before .before in
     let l = k .before .before .before .before .before .loop in
     filling-pair _ _ _ _ _ _ _ _ (l .inv) (omega arith) (f .fill-pair .last .0) (f .fill-pair .kept .0) _ _ _ (pair-entry k) refl refl (f .fill-pair .ensures)
 
 enum-known-entry-3 : tie.Need-enum-known-entry-3 Inv-loop μ-loop
 enum-known-entry-3 c = search needs
 
-at-least-requires-2 : tie.Need-at-least-requires-2 Inv-loop μ-loop
-at-least-requires-2 c κs =
-    let l = c .before .before .before .before .before .loop in
-    within-place _ _ _ _ _ _ _ _ (l .inv) (omega arith) _ (within-entry c) .0
-
 sub-fill-within : tie.Need-sub-fill-within Inv-loop μ-loop
-sub-fill-within c = omega arith
+sub-fill-within c = omega (arith, within-one (c .before))
 
 mul-fill-within : tie.Need-mul-fill-within Inv-loop μ-loop
 mul-fill-within c = omega arith
@@ -149,12 +143,12 @@ array-read-fill-within c = omega arith
 
 fill-within-requires : tie.Need-fill-within-requires Inv-loop μ-loop
 fill-within-requires c κs =
-    let k = c .before .before in
+    let k = c .before in
     let l = k .before .before .before .before .before .loop in
     (within-place _ _ _ _ _ _ _ _ (l .inv) (omega arith) _ (within-entry k) .1, omega (arith, l .inv .room, l .inv .same))
 
 sub-tops-2 : tie.Need-sub-tops-2 Inv-loop μ-loop
-sub-tops-2 c = omega arith
+sub-tops-2 c = omega (arith, within-one (c .before .before .before .before))
 
 mul-tops-3 : tie.Need-mul-tops-3 Inv-loop μ-loop
 mul-tops-3 c = omega arith
@@ -168,7 +162,7 @@ loop-less-3 c = omega arith
 loop-again-3 : tie.Need-loop-again-3 Inv-loop μ-loop
 loop-again-3 c =
     let f = c .before .before in
-    let k = f .before .before .before in
+    let k = f .before .before in
     let l = k .before .before .before .before .before .loop in
     filling-within _ _ _ _ _ _ _ _ (l .inv) (omega arith) (f .fill-within .last .0) (f .fill-within .kept .0) _ _ (within-entry k) refl (f .fill-within .ensures)
 
@@ -206,7 +200,6 @@ fill-rows-spec =
     loop-less
     loop-again
     enum-known-entry-2
-    at-least-requires
     sub-fill-pair
     mul-fill-pair
     array-read-fill-pair
@@ -221,7 +214,6 @@ fill-rows-spec =
     loop-less-2
     loop-again-2
     enum-known-entry-3
-    at-least-requires-2
     sub-fill-within
     mul-fill-within
     array-read-fill-within
