@@ -163,7 +163,7 @@ fn write_opened(body: &[u8], state: &mut [u64], n: usize, cells: usize)
 
 // The words of n entries, after the first two words.
 fn write_entries(body: &[u8], state: &mut [u64], n: usize)
-    requires { ⌜ (n * 5 ≤ length (now body)) × (2 + n ≤ length (now state)) ⌝ }
+    requires { ⌜ 2 + n ≤ length (now state) ⌝ }
     ensures { λ _. ⌜ Put (wordsOf (now (body .entry))) 2 n (now (state .entry)) (now (state .exit)) ⌝ }
 {
     let mut i: usize = 0;
@@ -175,7 +175,6 @@ fn write_entries(body: &[u8], state: &mut [u64], n: usize)
 
 // The word of entry i: its op and 256 times its argument.
 fn word_at(body: &[u8], i: usize) -> u64
-    requires { ⌜ i * 5 + 4 < length (now body) ⌝ }
     ensures { λ r. ⌜ r ≡ wordsOf (now (body .entry)) i ⌝ }
 {
     word_of(body::entry_at(body, i))
@@ -235,7 +234,7 @@ fn cells_needed(body: &[u8]) -> usize
                 d += 1;
             }
             Entry::Pair(op) => {
-                body::at_least(d, 2);
+                at_least(d, 2);
                 let y = possible[d - 1];
                 let x = possible[d - 2];
                 small(x, y);
@@ -251,6 +250,12 @@ fn cells_needed(body: &[u8]) -> usize
 }
 
 // Nothing to run: what is required here is known from here on.
+fn at_least(d: usize, n: usize)
+    requires { ⌜ n ≤ d ⌝ }
+    ensures { λ _. ⌜ n ≤ d ⌝ }
+{}
+
+// The same of a sum.
 fn small(x: usize, y: usize)
     requires { ⌜ x + y ≤ 62 ⌝ }
     ensures { λ _. ⌜ x + y ≤ 62 ⌝ }

@@ -68,11 +68,9 @@ pub(crate) fn step_over(
                 d += 1;
             }
             Entry::Within(limit) => {
-                body::at_least(d, 1);
                 answers[d - 1] = within_answer(answers[d - 1], limit, t);
             }
             Entry::Pair(op) => {
-                body::at_least(d, 2);
                 d -= 1;
                 at = pair(op, state, answers, base, starts, d, at, t);
             }

@@ -9,7 +9,6 @@ use Rattle.rules.specs.Limits.{argumentBytes}
 use Rattle.body.specs.declared.Entry.the-variants.{Letter, Pair}
 use Rattle.body.specs.Entry.{entryAt}
 use Rattle.body.specs.Stack.{stack, stackBy}
-use Rattle.body.proofs.Walk.{sound-start}
 use Rattle.watcher.proofs.Piles.{piled-wrong}
 use Rattle.watcher.proofs.Arrays.{letter-fits, letter-stack, pair-two, pair-stack, pair-small, pair-set}
 use Rattle.watcher.proofs.Rooming.{Rooming, rooming-start, rooming-end, rooming-letter, rooming-within, rooming-pair}
@@ -37,7 +36,7 @@ loop-holds : tie.Need-loop-holds Inv-loop μ-loop
 loop-holds c = (omega arith, omega arith, refl, unfold stackBy in rooming-start (c .before .args .body .now) (c .before .pre))
 
 entry-at-requires : tie.Need-entry-at-requires Inv-loop μ-loop
-entry-at-requires c κs = omega (arith, sound-start argumentBytes (c .before .before .before .args .body .now) (c .before .before .before .pre) .full)
+entry-at-requires c κs = search needs
 
 add-i : tie.Need-add-i Inv-loop μ-loop
 add-i c = omega arith

@@ -37,7 +37,7 @@ loop-again : tie.Need-loop-again Inv-loop μ-loop
 loop-again c =
     let l = c .before .before .loop in
     let s = c .before .before .before .before .before in
-    putting-more _ _ _ _ _ _ (c .word-at .result) (s .pre .1) (omega arith) (l .inv) (c .word-at .ensures)
+    putting-more _ _ _ _ _ _ (c .word-at .result) (s .pre) (omega arith) (l .inv) (c .word-at .ensures)
 
 same-length : tie.Need-same-length Inv-loop μ-loop
 same-length c = c .before .loop .inv .long

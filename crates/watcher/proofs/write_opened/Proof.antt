@@ -22,7 +22,7 @@ slice-write-state-2 c =
 write-entries-requires : tie.Need-write-entries-requires
 write-entries-requires c κs =
     let s = c .before .before .before in
-    (omega (arith, s .pre .whole), omega (arith, two-long s, s .pre .room))
+    omega (arith, two-long s, s .pre .room)
 
 add-clear : tie.Need-add-clear
 add-clear c = search needs

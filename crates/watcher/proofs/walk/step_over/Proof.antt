@@ -1,6 +1,6 @@
 -- `watcher::walk::step_over` meets its contract. The loop's invariant: the words, the place of the next cell and the stack in the arrays lead to the
 -- end of the walk over the words as they were. The measure is the number of entries left. Assumes nothing.
-use Prim.Native.Nat.{_+_, _-_, _<_}
+use Prim.Native.Nat.{_+_, _-_, _≤_, _<_}
 use mathlib.Core.Path.{_≡_, sym, _∙_}
 use native.Mathlib.Omega.{arith}
 use lib.ListN.{length}
@@ -94,19 +94,19 @@ loop-again c =
 enum-known-entry-2 : tie.Need-enum-known-entry-2 Inv-loop μ-loop
 enum-known-entry-2 c = search needs
 
--- a restriction
+-- a restriction, and its operand is there
 within-here : (c : tie.After-known-told2 Inv-loop μ-loop)
     → entryIn (c .before .before .before .before .before .before .loop .state) (c .before .before .before .before .before .before .loop .i)
     ≡ Within (c .before .entry2 .given .0 .0)
 within-here c = sym (c .before .before .before .entry-in .ensures) ∙ c .before .entry2 .given .1
 
-at-least-requires : tie.Need-at-least-requires Inv-loop μ-loop
-at-least-requires c κs =
+within-one : (c : tie.After-known-told2 Inv-loop μ-loop) → 1 ≤ c .before .before .before .before .before .before .loop .d
+within-one c =
     let j = c .before .before .before .before .before in
     stepping-one (j .before .loop .inv) (j .loop-test .taken) (c .before .entry2 .given .0 .0) (within-here c)
 
 sub-within-answer : tie.Need-sub-within-answer Inv-loop μ-loop
-sub-within-answer c = search needs
+sub-within-answer c = omega (arith, within-one c)
 
 mul-within-answer : tie.Need-mul-within-answer Inv-loop μ-loop
 mul-within-answer c = search needs
@@ -118,7 +118,7 @@ within-answer-requires : tie.Need-within-answer-requires Inv-loop μ-loop
 within-answer-requires c κs = search needs
 
 sub-answers : tie.Need-sub-answers Inv-loop μ-loop
-sub-answers c = search needs
+sub-answers c = omega (arith, within-one (c .before .before))
 
 mul-answers-2 : tie.Need-mul-answers-2 Inv-loop μ-loop
 mul-answers-2 c = search needs
@@ -131,7 +131,7 @@ loop-less-2 c = search needs
 
 loop-again-2 : tie.Need-loop-again-2 Inv-loop μ-loop
 loop-again-2 c =
-    let a = c .before .before .before in
+    let a = c .before .before in
     let j = a .before .before .before .before .before in
     stepping-within (j .before .loop .inv) (j .loop-test .taken) (a .before .entry2 .given .0 .0) (within-here a)
     (c .within-answer .result) (c .within-answer .ensures)
@@ -139,36 +139,35 @@ loop-again-2 c =
 enum-known-entry-3 : tie.Need-enum-known-entry-3 Inv-loop μ-loop
 enum-known-entry-3 c = search needs
 
--- an operator, whose right operand stands at d - 1
+-- an operator, and its operands are there, the right one at d - 1
 pair-here : (c : tie.After-known-told3 Inv-loop μ-loop)
     → entryIn (c .before .before .before .before .before .before .loop .state) (c .before .before .before .before .before .before .loop .i)
     ≡ Pair (c .before .entry3 .given .0 .0)
 pair-here c = sym (c .before .before .before .entry-in .ensures) ∙ c .before .entry3 .given .1
 
-at-least-requires-2 : tie.Need-at-least-requires-2 Inv-loop μ-loop
-at-least-requires-2 c κs =
+pair-two : (c : tie.After-known-told3 Inv-loop μ-loop) → 2 ≤ c .before .before .before .before .before .before .loop .d
+pair-two c =
     let j = c .before .before .before .before .before in
     stepping-two (j .before .loop .inv) (j .loop-test .taken) (c .before .entry3 .given .0 .0) (pair-here c)
 
-pair-stands : (c : tie.After-at-least2 Inv-loop μ-loop)
-    → let k = c .before .before .before .before .before .before .before in
+pair-stands : (c : tie.After-known-told3 Inv-loop μ-loop)
+    → let k = c .before .before .before .before .before .before in
     let z = k .before .before .before .before .before .before in
     Stepping (length (z .args .answers .now)) (length (z .args .starts .now)) (z .args .t) (z .args .events) (z .args .state .now)
     (k .loop .state) (k .loop .answers) (k .loop .base) (k .loop .starts) (k .loop .at) (k .loop .d - 1 + 1) (k .loop .i)
 pair-stands c =
-    let k = c .before .before .before .before .before .before .before in
-    let e : k .loop .d - 1 + 1 ≡ k .loop .d = omega (arith, c .at-least2 .ensures) in
+    let k = c .before .before .before .before .before .before in
+    let e : k .loop .d - 1 + 1 ≡ k .loop .d = omega (arith, pair-two c) in
     rw e (k .loop .inv)
 
 sub-d : tie.Need-sub-d Inv-loop μ-loop
-sub-d c = search needs
+sub-d c = omega (arith, pair-two c)
 
 pair-requires : tie.Need-pair-requires Inv-loop μ-loop
 pair-requires c κs =
-    let l = c .before .before .before .before in
-    let a = l .before in
+    let a = c .before .before .before .before in
     let j = a .before .before .before .before .before in
-    stepping-ready (pair-stands l) (j .loop-test .taken) (a .before .entry3 .given .0 .0) (pair-here a) (omega (arith, l .at-least2 .ensures))
+    stepping-ready (pair-stands a) (j .loop-test .taken) (a .before .entry3 .given .0 .0) (pair-here a) (omega (arith, pair-two a))
     (j .before .before .before .before .before .before .before .pre .0 .range)
 
 loop-less-3 : tie.Need-loop-less-3 Inv-loop μ-loop
@@ -177,10 +176,9 @@ loop-less-3 c = search needs
 loop-again-3 : tie.Need-loop-again-3 Inv-loop μ-loop
 loop-again-3 c =
     let p = c .before .before .before .before .before .before .before .before in
-    let l = p .before .before .before .before .before in
-    let a = l .before in
+    let a = p .before .before .before .before .before in
     let j = a .before .before .before .before .before in
-    stepping-pair (pair-stands l) (j .loop-test .taken) (a .before .entry3 .given .0 .0) (pair-here a) (omega (arith, l .at-least2 .ensures))
+    stepping-pair (pair-stands a) (j .loop-test .taken) (a .before .entry3 .given .0 .0) (pair-here a) (omega (arith, pair-two a))
     (p .pair .ensures)
 
 enum-told : tie.Need-enum-told Inv-loop μ-loop
@@ -242,7 +240,6 @@ step-over-spec =
     loop-less
     loop-again
     enum-known-entry-2
-    at-least-requires
     sub-within-answer
     mul-within-answer
     slice-read-within-answer
@@ -253,7 +250,6 @@ step-over-spec =
     loop-less-2
     loop-again-2
     enum-known-entry-3
-    at-least-requires-2
     sub-d
     pair-requires
     loop-less-3
