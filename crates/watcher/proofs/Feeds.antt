@@ -21,7 +21,7 @@ use Rattle.watcher.specs.State.{InForm}
 use Rattle.watcher.specs.Answer.{IsTicked}
 use Rattle.watcher.specs.Walk.{formed, answerOf, wordsAfter, answersFed, wordsFed}
 use Rattle.watcher.specs.Feed.{paired, AllTicked, none, more, firstFault, IsFed, FeedRefused, broken, faulty}
-use Rattle.watcher.specs.Step.{FeedReady, FeedDone}
+use Rattle.watcher.specs.Step.{StepsReady, FeedReady, FeedDone}
 use Rattle.watcher.proofs.States.{next-word}
 use Rattle.watcher.proofs.Judges.{formed-exactly}
 use Rattle.watcher.proofs.Calls.{walked-as-ticked}
@@ -143,11 +143,9 @@ module _ {s₀ ts ws old s new : List ℕ} {i : ℕ} (r : FeedReady s₀ ts ws o
     unfolding paired
     pairs = let k : i < length ws = omega (arith, r .even) in rw (add-one i, drop-cons ts i 0 h, drop-cons ws i 0 k)
 
-    pub feeds-late : getD s 1 0 ≤ getD ts i 0
-    feeds-late = first .late
-
-    pub feeds-range : getD ts i 0 < ticks
-    feeds-range = first .range
+    -- the next tick may be taken
+    pub feeds-ready : StepsReady s (getD ts i 0)
+    feeds-ready = record { form = x .form; late = first .late; range = first .range }
 
     -- a tick is taken, and its answer written
     pub feeds-more : (s′ : List ℕ) (a : ℕ) → length s′ ≡ length s → a ≡ answerOf (getD ts i 0) (getD ws i 0) s

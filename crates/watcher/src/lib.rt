@@ -86,8 +86,8 @@ pub fn tick(state: &mut [u64], t: u64, events: u32) -> Ticking
     Ticking::Refused(Refusal::State(0))
 }
 
-// The same for a state known to be in form: opening makes it so, and a tick keeps it so. It is not judged again.
-pub fn tick_in_form(state: &mut [u64], t: u64, events: u32) -> Ticking
+// The same for a state in form.
+fn tick_in_form(state: &mut [u64], t: u64, events: u32) -> Ticking
     requires { ⌜ InForm (now state) ⌝ }
     ensures { λ r. ⌜ TickAnswers (now (state .entry)) (now (state .exit)) t events r ⌝ }
 {

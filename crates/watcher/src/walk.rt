@@ -87,9 +87,19 @@ pub(crate) fn steps(state: &mut [u64], ticks: &[u64], events: &[u32], answers: &
     ensures { λ _. ⌜ FeedDone (now (state .entry)) (now (ticks .entry)) (now (events .entry)) (now (answers .entry))
         (now (state .exit)) (now (answers .exit)) ⌝ }
 {
+    let mut stack = [0u64; 32];
+    let mut base = [0usize; 33];
+    let mut starts = [0u64; 62];
     let mut i: usize = 0;
     while i < ticks.len() {
-        answers[i] = step(state, ticks[i], events[i]);
+        answers[i] = step_over(
+            state,
+            ticks[i],
+            events[i],
+            &mut stack,
+            &mut base,
+            &mut starts,
+        );
         i += 1;
     }
 }

@@ -16,7 +16,6 @@ use Rattle.watching.specs.Chunk.{mostHeld}
 use Rattle.watching.specs.Going.{lineLength, LineEnds, Appended, WritesOn, Goes, GoesFrom, GoesNext, JoinReady}
 use Rattle.watching.proofs.Takings.{part-first}
 use Rattle.watching.proofs.Biting.{line-leads}
-use Rattle.watching.proofs.Forms.{taken-form}
 use Rattle.watching.proofs.Appending.{take-least, joined-line}
 
 -- ---- what is written after what is written
@@ -110,7 +109,6 @@ module _ {run : Run} {h input s d : List ℕ} {from at end : ℕ} (few : length 
         none = refl;
         inside = omega (arith, e .inside);
         writes = w;
-        form = taken-form t;
       }
 
 -- one line and then others
@@ -124,26 +122,24 @@ goes-then {p = p} {q = q} g k =
       none = k .none;
       inside = k .inside;
       writes = writes-then (g .writes) (k .writes);
-      form = k .form;
     }
 
 -- none yet
-pub goes-none : {input s d : List ℕ} {p : Chunked} → GoesFrom input s d p → Goes (p .run) [] (p .used) (p .written) input s s d d p
+pub goes-none : {input s d : List ℕ} {p : Chunked} → GoesFrom input d p → Goes (p .run) [] (p .used) (p .written) input s s d d p
 goes-none {input} {s} {d} {p} g = record {
   bytes = [];
   leads = λ b. b;
   none = g .none;
   inside = g .inside;
   writes = record { counts = omega arith; fits = g .fits; written = sym (take-append-drop (p .written) d) };
-  form = g .form;
 }
 
 -- others can follow
-pub goes-from : {run : Run} {h input s s₁ d d₁ : List ℕ} {from at : ℕ} {p : Chunked} → Goes run h from at input s s₁ d d₁ p → GoesFrom input s₁ d₁ p
-goes-from g = record { none = g .none; inside = g .inside; fits = omega (arith, g .writes .fits, writes-length (g .writes)); form = g .form }
+pub goes-from : {run : Run} {h input s s₁ d d₁ : List ℕ} {from at : ℕ} {p : Chunked} → Goes run h from at input s s₁ d d₁ p → GoesFrom input d₁ p
+goes-from g = record { none = g .none; inside = g .inside; fits = omega (arith, g .writes .fits, writes-length (g .writes)) }
 
 -- the next line in an input, cut, where nothing is held
-pub next-goes : {input s s₁ d e : List ℕ} {end n : ℕ} {p : Chunked} {t : Taken} → GoesNext input s d end p → n ≡ min (end - p .used) mostHeld
+pub next-goes : {input s s₁ d e : List ℕ} {end n : ℕ} {p : Chunked} {t : Taken} → GoesNext input d end p → n ≡ min (end - p .used) mostHeld
     → IsTaken (p .run) (midOf (p .used) (p .used + n - p .used) input) s s₁ (midOf (p .written) (length d - p .written) d) e t
     → Goes (p .run) [] (p .used) (p .written) input s s₁ d (putMid (p .written) (length d - p .written) d e)
     (record { run = t .run; held = 0; used = end + 1; written = p .written + t .written })

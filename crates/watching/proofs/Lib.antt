@@ -4,9 +4,12 @@ pub mod Whole
 pub mod Unique
 pub mod Rooms
 pub mod Biting
-pub mod Forms
 pub mod Appending
 pub mod Goings
+pub mod LineFeeds
+pub mod Gatherings
+pub mod Tellings
+pub mod Batches
 pub mod Chunkings
 pub mod Held
 pub mod InPieces

@@ -7,7 +7,6 @@ use lib.Dec.{eqb}
 use lib.ListN.{length, take, drop}
 use Rattle.line.specs.Lines.{mostWritten}
 use Rattle.line.specs.Answer.{IsWritten}
-use Rattle.watcher.specs.State.{InForm}
 use Rattle.watching.specs.declared.Run.{Run}
 use Rattle.watching.specs.declared.Taken.{Taken}
 use Rattle.watching.specs.declared.Chunked.{Chunked}
@@ -48,18 +47,16 @@ pub record Goes (run : Run) (h : List ℕ) (from at : ℕ) (input s s′ d d′ 
   pub none : r .held ≡ 0
   pub inside : r .used ≤ length input
   pub writes : WritesOn bytes d d′ at (r .written)
-  pub form : r .run .phase ≡ 1 → InForm s′
 
 -- a place in an input and in the output from which lines can be taken
-pub record GoesFrom (input s d : List ℕ) (r : Chunked) : Type 0 where
+pub record GoesFrom (input d : List ℕ) (r : Chunked) : Type 0 where
   pub none : r .held ≡ 0
   pub inside : r .used ≤ length input
   pub fits : r .written ≤ length d
-  pub form : r .run .phase ≡ 1 → InForm s
 
 -- besides, a line ends at `end`, and there is room for what it writes
-pub record GoesNext (input s d : List ℕ) (end : ℕ) (r : Chunked) : Type 0 where
-  pub goes : GoesFrom input s d r
+pub record GoesNext (input d : List ℕ) (end : ℕ) (r : Chunked) : Type 0 where
+  pub goes : GoesFrom input d r
   pub ends : LineEnds input (r .used) end
   pub room : r .written + mostWritten ≤ length d
 

@@ -3,4 +3,5 @@ pub mod Answer
 pub mod Whole
 pub mod Chunk
 pub mod Going
+pub mod Batch
 pub mod Claim

@@ -1,4 +1,5 @@
 // A run of the watch program: what each line of its input does, and what is written for it.
+mod batch;
 mod pieces;
 
 use line::LineRead;
@@ -10,13 +11,10 @@ use text::Reading;
 use watcher::Opening;
 use watcher::Ticking;
 ghost use mathlib.Core.Path.{_≡_};
-ghost use mathlib.Core.Bool.{true};
 ghost use Prim.Native.Nat.{_≤_};
 ghost use lib.ListN.{length};
 ghost use Rattle.line.specs.Lines.{mostWritten};
 ghost use Rattle.line.specs.Answer.{IsWritten};
-ghost use Rattle.watcher.specs.State.{InForm};
-ghost use Rattle.watcher.specs.Answer.{TickAnswers};
 ghost use Rattle.watching.specs.Runs.{fresh, nextLine, tallyOf, wentOn, finishLine};
 ghost use Rattle.watching.specs.Answer.{BeginAnswers, StepAnswers, IsTaken, IsRefused, IsWindowed, bytesIn};
 ghost use Rattle.watching.specs.Chunk.{ChunkAnswers, FinishAnswers};
@@ -121,22 +119,15 @@ pub fn finish(run: Run, held: usize, part: &[u8], state: &mut [u64], out: &mut [
 }
 
 // Takes the next line: line 1 opens the state, a further one is a tick. What is to be said is written to `out`; after a refusal that is nothing.
-// A state that is known to be in form is not judged.
-pub(crate) fn take_line(
-    run: Run,
-    line: &[u8],
-    known: bool,
-    state: &mut [u64],
-    out: &mut [u8],
-) -> Taken
-    requires { ⌜ (known ≡ true → run .phase ≡ 1 → InForm (now state)) × (mostWritten ≤ length (now out)) ⌝ }
+pub(crate) fn take_line(run: Run, line: &[u8], state: &mut [u64], out: &mut [u8]) -> Taken
+    requires { ⌜ mostWritten ≤ length (now out) ⌝ }
     ensures { λ r. ⌜ IsTaken run (now (line .entry)) (now (state .entry)) (now (state .exit)) (now (out .entry)) (now (out .exit)) r ⌝ }
 {
     if run.phase == 0 {
         return take_first(run, line, state, out);
     }
     if run.phase == 1 {
-        return take_tick(run, line, known, state, out);
+        return take_tick(run, line, state, out);
     }
     Taken {
         run: run,
@@ -168,11 +159,11 @@ fn take_first(run: Run, line: &[u8], state: &mut [u64], out: &mut [u8]) -> Taken
     }
 }
 
-fn take_tick(run: Run, line: &[u8], known: bool, state: &mut [u64], out: &mut [u8]) -> Taken
-    requires { ⌜ (run .phase ≡ 1) × (known ≡ true → InForm (now state)) × (mostWritten ≤ length (now out)) ⌝ }
+fn take_tick(run: Run, line: &[u8], state: &mut [u64], out: &mut [u8]) -> Taken
+    requires { ⌜ (run .phase ≡ 1) × (mostWritten ≤ length (now out)) ⌝ }
     ensures { λ r. ⌜ IsTaken run (now (line .entry)) (now (state .entry)) (now (state .exit)) (now (out .entry)) (now (out .exit)) r ⌝ }
 {
-    match step(line, known, state) {
+    match step(line, state) {
         Stepping::Window(start, end) => take_window(run, start, end, out),
         Stepping::Nothing => Taken {
             run: going(run),
@@ -198,13 +189,12 @@ fn begin(text: &[u8], state: &mut [u64]) -> Beginning
 }
 
 // Reads a line as a tick, and moves the state by it.
-fn step(line: &[u8], known: bool, state: &mut [u64]) -> Stepping
-    requires { ⌜ (known ≡ true → InForm (now state)) ⌝ }
+fn step(line: &[u8], state: &mut [u64]) -> Stepping
     ensures { λ r. ⌜ StepAnswers (now (line .entry)) (now (state .entry)) (now (state .exit)) r ⌝ }
 {
     match line::read_tick(line) {
         LineRead::Refused(r) => Stepping::Refused(r),
-        LineRead::Tick(t, events) => match tick_by(known, state, t, events) {
+        LineRead::Tick(t, events) => match watcher::tick(state, t, events) {
             Ticking::Window(start) => Stepping::Window(start, t),
             Ticking::Nothing => Stepping::Nothing,
             Ticking::Refused(r) => Stepping::Refused(r),
@@ -212,19 +202,8 @@ fn step(line: &[u8], known: bool, state: &mut [u64]) -> Stepping
     }
 }
 
-// A tick, with the state judged unless it is known to be in form.
-fn tick_by(known: bool, state: &mut [u64], t: u64, events: u32) -> Ticking
-    requires { ⌜ (known ≡ true → InForm (now state)) ⌝ }
-    ensures { λ r. ⌜ TickAnswers (now (state .entry)) (now (state .exit)) t events r ⌝ }
-{
-    if known {
-        return watcher::tick_in_form(state, t, events);
-    }
-    watcher::tick(state, t, events)
-}
-
 // Adds a window to the tally and writes it.
-fn take_window(run: Run, start: u64, end: u64, out: &mut [u8]) -> Taken
+pub(crate) fn take_window(run: Run, start: u64, end: u64, out: &mut [u8]) -> Taken
     requires { ⌜ mostWritten ≤ length (now out) ⌝ }
     ensures { λ r. ⌜ IsWindowed run start end (now (out .entry)) (now (out .exit)) r ⌝ }
 {
@@ -265,7 +244,7 @@ fn refused(run: Run, r: Refusal, out: &mut [u8]) -> Taken
 }
 
 // The run goes on, with a line more.
-fn going(run: Run) -> Run
+pub(crate) fn going(run: Run) -> Run
     ensures { λ r. ⌜ r ≡ wentOn run (tallyOf run) ⌝ }
 {
     Run {

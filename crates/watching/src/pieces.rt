@@ -69,7 +69,7 @@ pub(crate) fn take_last(
             };
         }
     }
-    crate::take_line(run, &part[0..kept], false, state, out)
+    crate::take_line(run, &part[0..kept], state, out)
 }
 
 // Takes the line that a line feed at `end` ends, after the bytes held of it.
@@ -89,7 +89,7 @@ fn take_joined(
     let mut line = [0u8; 1025];
     let from = append(&mut line, 0, &part[0..held]);
     let bytes = append(&mut line, from, &chunk[0..end]);
-    let taken = crate::take_line(run, &line[0..bytes], false, state, out);
+    let taken = crate::take_line(run, &line[0..bytes], state, out);
     let later = taken.run;
     Chunked {
         run: later,
@@ -99,9 +99,18 @@ fn take_joined(
     }
 }
 
-// Takes the lines that end in the input from a place on, as long as there is room for what a line may write.
+// Takes the lines that end in the input from a place on, as long as there is room for what a line may write: ticks many at once, the rest one by one.
 fn take_lines(first: Chunked, input: &[u8], state: &mut [u64], out: &mut [u8]) -> Chunked
-    requires { ⌜ GoesFrom (now input) (now state) (now out) first ⌝ }
+    requires { ⌜ GoesFrom (now input) (now out) first ⌝ }
+    ensures { λ r. ⌜ GoesOn (now (input .entry)) (now (state .entry)) (now (state .exit)) (now (out .entry)) (now (out .exit)) first r ⌝ }
+{
+    let many = crate::batch::take_batches(first, input, state, out);
+    take_each(many, input, state, out)
+}
+
+// The same, one by one.
+fn take_each(first: Chunked, input: &[u8], state: &mut [u64], out: &mut [u8]) -> Chunked
+    requires { ⌜ GoesFrom (now input) (now out) first ⌝ }
     ensures { λ r. ⌜ GoesOn (now (input .entry)) (now (state .entry)) (now (state .exit)) (now (out .entry)) (now (out .exit)) first r ⌝ }
 {
     let mut p = first;
@@ -117,7 +126,7 @@ fn take_lines(first: Chunked, input: &[u8], state: &mut [u64], out: &mut [u8]) -
 
 // Takes the line that a line feed at `end` ends, and writes after what is written.
 fn take_next(p: Chunked, input: &[u8], end: usize, state: &mut [u64], out: &mut [u8]) -> Chunked
-    requires { ⌜ GoesNext (now input) (now state) (now out) end p ⌝ }
+    requires { ⌜ GoesNext (now input) (now out) end p ⌝ }
     ensures { λ r. ⌜ Goes (p .run) [] (p .used) (p .written) (now (input .entry)) (now (state .entry)) (now (state .exit))
         (now (out .entry)) (now (out .exit)) r × (r .used ≡ end + 1) ⌝ }
 {
@@ -125,7 +134,7 @@ fn take_next(p: Chunked, input: &[u8], end: usize, state: &mut [u64], out: &mut 
     let at = p.written;
     let run = p.run;
     let to = from + least(end - from, crate::MOST_HELD);
-    let taken = crate::take_line(run, &input[from..to], true, state, &mut out[at..]);
+    let taken = crate::take_line(run, &input[from..to], state, &mut out[at..]);
     let later = taken.run;
     Chunked {
         run: later,
@@ -165,7 +174,7 @@ fn append(part: &mut [u8], from: usize, piece: &[u8]) -> usize
 }
 
 // Where the line that begins at a place ends: at a line feed, or at the end of the input.
-fn line_end(input: &[u8], from: usize) -> usize
+pub(crate) fn line_end(input: &[u8], from: usize) -> usize
     requires { ⌜ from ≤ length (now input) ⌝ }
     ensures { λ r. ⌜ (r ≡ from + lineLength (drop from (now (input .entry)))) × (r ≤ length (now (input .entry))) ⌝ }
 {
@@ -179,7 +188,7 @@ fn line_end(input: &[u8], from: usize) -> usize
     at
 }
 
-fn least(a: usize, b: usize) -> usize
+pub(crate) fn least(a: usize, b: usize) -> usize
     ensures { λ r. ⌜ r ≡ min a b ⌝ }
 {
     if a < b {

@@ -17,8 +17,8 @@ enum-known-r c = search needs
 enum-known-t : tie.Need-enum-known-t
 enum-known-t c = search needs
 
-tick-by-requires : tie.Need-tick-by-requires
-tick-by-requires c κs = search needs
+tick-requires : tie.Need-tick-requires
+tick-requires c κs = search needs
 
 enum-known-start : tie.Need-enum-known-start
 enum-known-start c = search needs
@@ -43,7 +43,7 @@ returns-2 c =
     record {
       events = known .t .given .0 .1 .0;
       read = subst (LineReadOf _) (known .t .given .1) (known .before .before .read-tick .ensures);
-      ticked = subst (TickAnswers _ _ _ _) (c .before .start .given .1) (ticks .tick-by .ensures);
+      ticked = subst (TickAnswers _ _ _ _) (c .before .start .given .1) (ticks .tick .ensures);
     }
 
 same-length-2 : tie.Need-same-length-2
@@ -57,7 +57,7 @@ returns-3 c =
       record {
         events = known .t .given .0 .1 .0;
         read = subst (LineReadOf _) (known .t .given .1) (known .before .before .read-tick .ensures);
-        ticked = subst (TickAnswers _ _ _ _) (c .enum-told .given .1) (ticks .tick-by .ensures);
+        ticked = subst (TickAnswers _ _ _ _) (c .enum-told .given .1) (ticks .tick .ensures);
       },
     )
 
@@ -69,7 +69,7 @@ returns-4 c =
     let ticks = c .before .before .before .before .before in
     let known = ticks .before .before .before in
     unticked-by _ _ _ _ _ _ (subst (LineReadOf _) (known .t .given .1) (known .before .before .read-tick .ensures))
-    (subst (TickAnswers _ _ _ _) (c .before .r2 .given .1) (ticks .tick-by .ensures))
+    (subst (TickAnswers _ _ _ _) (c .before .r2 .given .1) (ticks .tick .ensures))
 
 pub step-spec : {M : Type 1} → statement M
 step-spec =
@@ -78,7 +78,7 @@ step-spec =
     read-tick-requires
     enum-known-r
     enum-known-t
-    tick-by-requires
+    tick-requires
     enum-known-start
     enum-told
     enum-known-r-2

@@ -19,9 +19,7 @@ returns : tie.Need-returns
 returns c = search needs
 
 take-tick-requires : tie.Need-take-tick-requires
-take-tick-requires c κs =
-    let s = c .before .before .before .before .before .before .before .before .before in
-    (search needs, λ k. s .pre .0 k (omega arith), search needs)
+take-tick-requires c κs = search needs
 
 same-length-3 : tie.Need-same-length-3
 same-length-3 c = search needs

@@ -1,38 +1,55 @@
--- `watcher::walk::steps` meets its contract: the invariant is `Feeds`, the measure the ticks left. Assumes nothing.
+-- `watcher::walk::steps` meets its contract: the invariant is `Feeds` with a stack of the right size, the measure the ticks left. Assumes nothing.
 use Prim.Native.Nat.{_-_}
-use lib.ListN.{length}
+use mathlib.Core.Path.{_≡_, refl, _∙_}
+use native.Mathlib.Omega.{arith}
+use lib.ListN.{length, getD}
 use borrow.Author.Needs.{needs}
-use Rattle.watcher.proofs.Feeds.{Feeds, feeds-start, feeds-end, feeds-late, feeds-range, feeds-more}
+use Rattle.watcher.proofs.Stepping.{few-entries}
+use Rattle.watcher.proofs.Feeds.{Feeds, feeds-start, feeds-end, feeds-ready, feeds-more}
 use Rattle.watcher.proofs.walk.steps.Statement.{statement}
 use Rattle.watcher.proofs.walk.steps.Tie as tie
 
 abbrev Inv-loop : tie.InvT-loop
-Inv-loop state₀ ticks events answers₀ i₀ state answers i = Feeds state₀ ticks events answers₀ state answers i
+Inv-loop state₀ ticks events answers₀ stack₀ base₀ starts₀ i₀ state answers stack base starts i =
+    Feeds state₀ ticks events answers₀ state answers i × (length stack ≡ 32) × (length base ≡ 33) × (length starts ≡ 62) × (getD base 0 0 ≡ 0)
 
 abbrev μ-loop : tie.MeasureT-loop
-μ-loop state₀ ticks events answers₀ i₀ state answers i = length ticks - i
+μ-loop state₀ ticks events answers₀ stack₀ base₀ starts₀ i₀ state answers stack base starts i = length ticks - i
 
 loop-holds : tie.Need-loop-holds Inv-loop μ-loop
-loop-holds c = feeds-start (c .before .before .before .before .pre)
+loop-holds c = (feeds-start (c .before .before .before .before .pre), refl, refl, refl, refl)
 
-mul-step : tie.Need-mul-step Inv-loop μ-loop
-mul-step c = search needs
+mul-step-over : tie.Need-mul-step-over Inv-loop μ-loop
+mul-step-over c = search needs
 
-shared-slice-read-step : tie.Need-shared-slice-read-step Inv-loop μ-loop
-shared-slice-read-step c = search needs
+shared-slice-read-step-over : tie.Need-shared-slice-read-step-over Inv-loop μ-loop
+shared-slice-read-step-over c = search needs
 
-mul-step-2 : tie.Need-mul-step-2 Inv-loop μ-loop
-mul-step-2 c = search needs
+mul-step-over-2 : tie.Need-mul-step-over-2 Inv-loop μ-loop
+mul-step-over-2 c = search needs
 
-shared-slice-read-step-2 : tie.Need-shared-slice-read-step-2 Inv-loop μ-loop
-shared-slice-read-step-2 c = search needs
+shared-slice-read-step-over-2 : tie.Need-shared-slice-read-step-over-2 Inv-loop μ-loop
+shared-slice-read-step-over-2 c = search needs
 
-step-requires : tie.Need-step-requires Inv-loop μ-loop
-step-requires c κs =
-    let j = c .before .before .before in
-    let x = j .before .loop .inv in
+slice-aggregate-step-over : tie.Need-slice-aggregate-step-over Inv-loop μ-loop
+slice-aggregate-step-over c = search needs
+
+slice-aggregate-step-over-2 : tie.Need-slice-aggregate-step-over-2 Inv-loop μ-loop
+slice-aggregate-step-over-2 c = search needs
+
+slice-aggregate-step-over-3 : tie.Need-slice-aggregate-step-over-3 Inv-loop μ-loop
+slice-aggregate-step-over-3 c = search needs
+
+step-over-requires : tie.Need-step-over-requires Inv-loop μ-loop
+step-over-requires c κs =
+    let j = c .before .before .before .before .before .before in
+    let i = j .before .loop .inv in
     let r = j .before .before .before .before .before .before .pre in
-    record { form = x .form; late = feeds-late r x (j .loop-test .taken); range = feeds-range r x (j .loop-test .taken) }
+    let ready = feeds-ready r (i .0) (j .loop-test .taken) in
+    let few = few-entries ready in (
+      ready,
+      record { deep = omega (arith, few, i .1); based = omega (arith, i .1, i .2); many = omega (arith, few, i .3); most = omega (arith, i .3); first = i .4 },
+    )
 
 mul-answers : tie.Need-mul-answers Inv-loop μ-loop
 mul-answers c = search needs
@@ -48,11 +65,17 @@ loop-less c = search needs
 
 loop-again : tie.Need-loop-again Inv-loop μ-loop
 loop-again c =
-    let p = c .before .before in
-    let j = p .before .before .before .before in
-    let r = j .before .before .before .before .before .before .pre in
-    feeds-more r (j .before .loop .inv) (j .loop-test .taken) (p .step .last .0) (p .step .result) (p .step .kept .0)
-    (p .step .ensures .answer) (p .step .ensures .words)
+    let p = c .before .before .before .before .before in
+    let j = p .before .before .before .before .before .before .before in
+    let i = j .before .loop .inv in
+    let r = j .before .before .before .before .before .before .pre in (
+      feeds-more r (i .0) (j .loop-test .taken) (p .step-over .last .0) (p .step-over .result) (p .step-over .kept .0)
+          (p .step-over .ensures .0 .answer) (p .step-over .ensures .0 .words),
+      p .step-over .kept .1 .1 .1 .0 ∙ i .1,
+      p .step-over .kept .1 .1 .1 .1 .0 ∙ i .2,
+      p .step-over .kept .1 .1 .1 .1 .1 .0 ∙ i .3,
+      p .step-over .ensures .1,
+    )
 
 same-length : tie.Need-same-length Inv-loop μ-loop
 same-length c = search needs
@@ -61,7 +84,7 @@ same-length-2 : tie.Need-same-length-2 Inv-loop μ-loop
 same-length-2 c = search needs
 
 returns : tie.Need-returns Inv-loop μ-loop
-returns c = feeds-end (c .before .before .before .before .before .before .pre) (c .before .loop .inv) (c .loop-test .left)
+returns c = feeds-end (c .before .before .before .before .before .before .pre) (c .before .loop .inv .0) (c .loop-test .left)
 
 pub steps-spec : {M : Type 1} → statement M
 steps-spec =
@@ -70,11 +93,14 @@ steps-spec =
     Inv-loop
     μ-loop
     loop-holds
-    mul-step
-    shared-slice-read-step
-    mul-step-2
-    shared-slice-read-step-2
-    step-requires
+    mul-step-over
+    shared-slice-read-step-over
+    mul-step-over-2
+    shared-slice-read-step-over-2
+    slice-aggregate-step-over
+    slice-aggregate-step-over-2
+    slice-aggregate-step-over-3
+    step-over-requires
     mul-answers
     slice-write-answers
     add-i

@@ -54,7 +54,7 @@ part-take-line-end c =
     omega (arith, appended-few (second .append2 .ensures), second .append2 .kept, first .append .kept, length-replicate {A = ℕ} 1025 0)
 
 take-line-requires : tie.Need-take-line-requires
-take-line-requires c κs = (λ k. let z : _≡_ {A = ℕ} 0 1 = cc in absurd (omega arith), search needs)
+take-line-requires c κs = search needs
 
 -- the place after a line feed is within the chunk
 fits-more : (c : tie.Start) → c .args .end + 1 < 2 ^ 64

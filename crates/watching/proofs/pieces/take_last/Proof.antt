@@ -31,7 +31,7 @@ part-take-line-end : tie.Need-part-take-line-end
 part-take-line-end c = search needs
 
 take-line-requires : tie.Need-take-line-requires
-take-line-requires c κs = (λ k. let z : _≡_ {A = ℕ} 0 1 = cc in absurd (omega arith), search needs)
+take-line-requires c κs = search needs
 
 same-length : tie.Need-same-length
 same-length c = search needs
