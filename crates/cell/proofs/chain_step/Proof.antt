@@ -3,7 +3,7 @@
 use mathlib.Core.Path.{refl}
 use borrow.Author.Needs.{needs}
 use Rattle.cell.specs.Cell.{cellWords}
-use Rattle.cell.proofs.Sizes.{chain-words, step-sized}
+use Rattle.cell.proofs.Sizes.{chain-some}
 use Rattle.cell.proofs.Steps.{chain-stepped}
 use Rattle.cell.proofs.chain_step.Statement.{statement}
 use Rattle.cell.proofs.chain_step.Tie as tie
@@ -24,7 +24,7 @@ returns c =
     let d = c .before .before in
     let e = d .before .before .before .before in
     let h = e .before .before .before .before in
-    chain-stepped _ _ (h .args .y) (h .args .starts .now) (h .args .cell .now) _ _ _ _ (chain-words (step-sized (h .pre)) refl .some)
+    chain-stepped _ _ (h .args .y) (h .args .starts .now) (h .args .cell .now) _ _ _ _ (chain-some (h .pre) refl)
     (e .choose-and-keep .ensures .1) (d .renew .ensures) (e .choose-and-keep .ensures .0)
 
 pub chain-step-spec : {M : Type 1} → statement M
