@@ -8,7 +8,9 @@ use lib.ListN.{length, drop, getD, drop-of-length-le}
 use borrow.Author.Tests.{eq-eqb, ne-eqb, lt-ltb, le-ltb}
 use Rattle.rules.specs.declared.Op.{Op}
 use Rattle.rules.specs.declared.Op.the-variants.{Either}
+use Rattle.cell.specs.Cell.{cellWords}
 use Rattle.cell.specs.Form.{pairFits, allZero, keptFits, cellFits, sizeFits, cellInForm}
+use Rattle.cell.proofs.Sizes.{size-fits}
 use Rattle.cell.proofs.Pairs.{drop-one, drop-two}
 
 pub all-zero-end : (c : List ℕ) (at : ℕ) → length c ≤ at → allZero (drop at c) ≡ true
@@ -44,10 +46,10 @@ module _ (τ last : ℕ) (c : List ℕ) (at : ℕ) (h : at + 1 < length c) where
   unfolding keptFits
   kept-fits-pair z l = rw (drop-two c at h, ne-eqb (getD c at 0) 0 z, lt-ltb last (getD c at 0) l)
 
--- words of a size that fits are judged as a cell
-pub in-form : (τ : ℕ) (op : Op) (c : List ℕ) → sizeFits op (length c) ≡ true → cellInForm τ op c ≡ cellFits τ op c
+-- the operator's words are judged as its cell
+pub cell-in-form : (τ : ℕ) (op : Op) (c : List ℕ) (y : ℕ) → length c ≡ cellWords op y → cellInForm τ op c ≡ cellFits τ op c
 unfolding cellInForm
-in-form τ op c q = rw q
+cell-in-form τ op c y e = rw (e, size-fits op y)
 
 -- a `|` has no words, and nothing else to fit
 pub either-in-form : (τ : ℕ) (c : List ℕ) → eqb (length c) 0 ≡ cellInForm τ Either c

@@ -17,7 +17,7 @@ use Rattle.cell.specs.Cell.{cellWords, cellStarts}
 use Rattle.cell.specs.Form.{sizeFits}
 use Rattle.cell.specs.Calls.{Paired, Pushed, startsFit, PushAnswers}
 use Rattle.cell.proofs.Words.{length-starts-in, length-cell-starts}
-use Rattle.cell.proofs.Sizes.{chain-paired}
+use Rattle.cell.proofs.Sizes.{size-fits, chain-paired}
 
 starts-at : (c : List ℕ) (i : ℕ) → 2 * i + 1 < length c → getD (startsIn c) i 0 ≡ getD c (2 * i) 0
 unfolding startsIn
@@ -123,6 +123,11 @@ module _ (op : Op) (c s : List ℕ) (at : ℕ) where
   pub starts-not : sizeFits op (length c) ≡ false → startsFit op c s at ≡ false
   unfolding startsFit
   starts-not q = rw q
+
+  -- the starts of the operator's cell fit where they have room
+  pub cell-starts-fit : (y : ℕ) → length c ≡ cellWords op y → at + length (cellStarts op c) ≤ length s → startsFit op c s at ≡ true
+  cell-starts-fit y e h =
+      starts-fit (ap (sizeFits op) e ∙ size-fits op y) ∙ le-leb (at + length (cellStarts op c)) (length s) h
 
 module _ (c s : List ℕ) (at : ℕ) where
   pub both-starts-fit : length c ≡ 4 → startsFit Both c s at ≡ leb (at + 2) (length s)
