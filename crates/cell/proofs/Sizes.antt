@@ -1,33 +1,15 @@
 -- What the words of a cell come to, once its operator is known. Assumes nothing.
-use mathlib.Core.Path.{_≡_, refl, ap, _∙_}
+use mathlib.Core.Path.{_≡_, refl, _∙_}
 use mathlib.Core.Bool.{Bool, true, false, cond}
-use mathlib.Core.List.{List}
-use Prim.Native.Nat.{ℕ, _+_, _*_, _%_, _≤_}
+use Prim.Native.Nat.{ℕ, _+_, _*_, _%_, _≤_, _<_}
 use native.Mathlib.Omega.{arith}
 use lib.Dec.{leb, eqb}
-use lib.ListN.{length}
-use borrow.Author.Tests.{leb-true, eqb-true, le-leb, eq-eqb}
+use borrow.Author.Tests.{leb-true, eqb-true, le-leb, lt-leb, eq-eqb}
 use Rattle.rules.specs.declared.Op.{Op}
 use Rattle.rules.specs.declared.Op.the-variants.{Either, Both, Without, Chain}
 use Rattle.cell.specs.Cell.{cellWords}
 use Rattle.cell.specs.Form.{sizeFits}
-use Rattle.cell.specs.Calls.{Paired, isCell, StepReady}
-
-module _ {op : Op} {t : ℕ} {ys c : List ℕ} (r : StepReady op t ys c) where
-  words-as : {o : Op} → op ≡ o → length c ≡ cellWords o (length ys)
-  words-as e = r .words ∙ ap (λ k. cellWords k (length ys)) e
-
-  pub both-words : op ≡ Both → length c ≡ 4
-  unfolding cellWords
-  both-words e = words-as e
-
-  pub without-words : op ≡ Without → length c ≡ 1
-  unfolding cellWords
-  without-words e = words-as e
-
-  pub chain-some : op ≡ Chain → 2 ≤ length c
-  unfolding cellWords
-  chain-some e = let k : length c ≡ 2 * (1 + length ys) = words-as e in omega arith
+use Rattle.cell.specs.Calls.{Paired, isCell}
 
 -- the words of the operator's cell, for any number of possible starts, are a size that fits
 pub size-fits : (op : Op) (y : ℕ) → sizeFits op (cellWords op y) ≡ true
@@ -47,16 +29,58 @@ chain-paired n q =
     let u = both-true (leb 2 n) (eqb (n % 2) 0) q in
     record { some = leb-true 2 n (u .0); even = eqb-true (n % 2) 0 (u .1) }
 
--- the operator's cell for a number of possible starts
+-- the operator's cell for a number of possible starts: its words, where these are few
 module _ (op : Op) (y n : ℕ) where
-  pub is-cell : y ≤ 62 → n ≡ cellWords op y → isCell op y n ≡ true
+  is-cell-words : cellWords op y ≤ 126 → isCell op y n ≡ eqb n (cellWords op y)
   unfolding isCell
-  is-cell few e = rw (le-leb y 62 few) (eq-eqb n (cellWords op y) e)
+  is-cell-words h = go (eqb n (cellWords op y)) refl
+    where
+      go : (b : Bool) → eqb n (cellWords op y) ≡ b → cond b (leb n 126) false ≡ b
+      go true q = le-leb n 126 (omega (arith, eqb-true n (cellWords op y) q))
+      go false q = refl
 
-  pub is-cell-few : isCell op y n ≡ true → y ≤ 62
+  is-cell-not : 126 < cellWords op y → isCell op y n ≡ false
   unfolding isCell
-  is-cell-few q = leb-true y 62 (both-true (leb y 62) (eqb n (cellWords op y)) q .0)
+  is-cell-not h = go (eqb n (cellWords op y)) refl
+    where
+      go : (b : Bool) → eqb n (cellWords op y) ≡ b → cond b (leb n 126) false ≡ false
+      go true q = lt-leb n 126 (omega (arith, eqb-true n (cellWords op y) q))
+      go false q = refl
 
-  pub is-cell-words : isCell op y n ≡ true → n ≡ cellWords op y
-  unfolding isCell
-  is-cell-words q = eqb-true n (cellWords op y) (both-true (leb y 62) (eqb n (cellWords op y)) q .1)
+few-words : (op : Op) (y : ℕ) → y ≤ 62 → cellWords op y ≤ 126
+unfolding cellWords
+few-words Either y h = omega arith
+few-words Both y h = omega arith
+few-words Without y h = omega arith
+few-words Chain y h = omega arith
+
+pub is-cell : (op : Op) (y n : ℕ) → y ≤ 62 → n ≡ cellWords op y → isCell op y n ≡ true
+is-cell op y n few e = is-cell-words op y n (few-words op y few) ∙ eq-eqb n (cellWords op y) e
+
+module _ (y n : ℕ) where
+  pub is-either : isCell Either y n ≡ eqb n 0
+  unfolding cellWords
+  is-either = is-cell-words Either y n (omega arith)
+
+  pub is-both : isCell Both y n ≡ eqb n 4
+  unfolding cellWords
+  is-both = is-cell-words Both y n (omega arith)
+
+  pub is-without : isCell Without y n ≡ eqb n 1
+  unfolding cellWords
+  is-without = is-cell-words Without y n (omega arith)
+
+  pub is-chain : y ≤ 62 → isCell Chain y n ≡ eqb n (2 * (1 + y))
+  unfolding cellWords
+  is-chain h = is-cell-words Chain y n (omega arith)
+
+  pub is-chain-not : 62 < y → isCell Chain y n ≡ false
+  unfolding cellWords
+  is-chain-not h = is-cell-not Chain y n (omega arith)
+
+  pub is-chain-ready : isCell Chain y n ≡ true → (y ≤ 62) × (n ≡ cellWords Chain y)
+  unfolding isCell cellWords
+  is-chain-ready q =
+      let u = both-true (eqb n (2 * (1 + y))) (leb n 126) q in
+      let e : n ≡ 2 * (1 + y) = eqb-true n (2 * (1 + y)) (u .0) in
+      (omega (arith, leb-true n 126 (u .1)), e)

@@ -21,9 +21,9 @@ pub record Paired (n : ℕ) : Type 0 where
   pub some : 2 ≤ n
   pub even : n % 2 ≡ 0
 
--- n words are the operator's cell, where its right operand has y possible starts, at most 62
+-- n words are the operator's cell, where its right operand has y possible starts; no cell has more than 126
 unfoldable pub isCell : Op → ℕ → ℕ → Bool
-isCell op y n = cond (leb y 62) (eqb n (cellWords op y)) false
+isCell op y n = cond (eqb n (cellWords op y)) (leb n 126) false
 
 -- a tick may step the cell c of the operator, where ys are y's possible starts
 pub record StepReady (op : Op) (t : ℕ) (ys c : List ℕ) : Type 0 where

@@ -162,33 +162,42 @@ fn all_zero(cell: &[u64], from: usize) -> bool
 pub fn cell_step(op: Op, cell: &mut [u64], starts: &[u64], x: u64, y: u64, t: u32) -> u64
     ensures { λ r. ⌜ StepAnswers op t x y (now (starts .entry)) (now (cell .entry)) (now (cell .exit)) r ⌝ }
 {
-    if is_cell(op, starts.len(), cell.len()) {
-        return step_cell(op, cell, starts, x, y, t as u64);
+    match op {
+        Op::Either => {
+            if cell.len() == 0 {
+                return larger(x, y);
+            }
+            0
+        }
+        Op::Both => {
+            if cell.len() == 4 {
+                return both_step(cell, x, y, t as u64);
+            }
+            0
+        }
+        Op::Without => {
+            if cell.len() == 1 {
+                return without_step(cell, x, y);
+            }
+            0
+        }
+        Op::Chain => {
+            if is_chain(starts.len(), cell.len()) {
+                return chain_step(cell, starts, x, y, t as u64);
+            }
+            0
+        }
     }
-    0
 }
 
-// Whether n words are the operator's cell, where its right operand has y possible starts, at most 62.
-fn is_cell(op: Op, y: usize, n: usize) -> bool
-    ensures { λ r. ⌜ r ≡ isCell op y n ⌝ }
+// Whether n words are the cell of a `;` whose right operand has y possible starts, at most 62.
+fn is_chain(y: usize, n: usize) -> bool
+    ensures { λ r. ⌜ r ≡ isCell Chain y n ⌝ }
 {
     if 62 < y {
         return false;
     }
-    n == cell_words(op, y as u8)
-}
-
-// The operator's cell, stepped.
-fn step_cell(op: Op, cell: &mut [u64], starts: &[u64], x: u64, y: u64, t: u64) -> u64
-    requires { ⌜ StepReady op t (now starts) (now cell) ⌝ }
-    ensures { λ r. ⌜ Stepped op t x y (now (starts .entry)) (now (cell .entry)) (now (cell .exit)) r ⌝ }
-{
-    match op {
-        Op::Either => larger(x, y),
-        Op::Both => both_step(cell, x, y, t),
-        Op::Without => without_step(cell, x, y),
-        Op::Chain => chain_step(cell, starts, x, y, t),
-    }
+    n == 2 * (1 + y)
 }
 
 // The greater of min(x, right) and min(left, y), left and right as they become.
