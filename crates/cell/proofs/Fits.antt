@@ -1,11 +1,16 @@
 -- The form of words from a place on, tested one after the other. Assumes nothing.
-use mathlib.Core.Path.{_≡_}
-use mathlib.Core.Bool.{true, false, cond}
+use mathlib.Core.Path.{_≡_, refl}
+use mathlib.Core.Bool.{Bool, true, false, cond}
 use mathlib.Core.List.{List}
 use Prim.Native.Nat.{ℕ, _+_, _≤_, _<_}
+use lib.Dec.{eqb}
 use lib.ListN.{length, drop, getD, drop-of-length-le}
 use borrow.Author.Tests.{eq-eqb, ne-eqb, lt-ltb, le-ltb}
-use Rattle.cell.specs.Form.{pairFits, allZero, keptFits}
+use Rattle.rules.specs.declared.Op.{Op}
+use Rattle.rules.specs.declared.Op.the-variants.{Either}
+use Rattle.cell.specs.Cell.{cellWords}
+use Rattle.cell.specs.Form.{pairFits, allZero, keptFits, cellFits, sizeFits, cellInForm}
+use Rattle.cell.proofs.Sizes.{size-fits}
 use Rattle.cell.proofs.Pairs.{drop-one, drop-two}
 
 pub all-zero-end : (c : List ℕ) (at : ℕ) → length c ≤ at → allZero (drop at c) ≡ true
@@ -40,3 +45,17 @@ module _ (τ last : ℕ) (c : List ℕ) (at : ℕ) (h : at + 1 < length c) where
       → keptFits τ last (drop at c) ≡ cond (pairFits τ (getD c at 0) (getD c (at + 1) 0)) (keptFits τ (getD c at 0) (drop (at + 2) c)) false
   unfolding keptFits
   kept-fits-pair z l = rw (drop-two c at h, ne-eqb (getD c at 0) 0 z, lt-ltb last (getD c at 0) l)
+
+-- the operator's words are judged as its cell
+pub cell-in-form : (τ : ℕ) (op : Op) (c : List ℕ) (y : ℕ) → length c ≡ cellWords op y → cellInForm τ op c ≡ cellFits τ op c
+unfolding cellInForm
+cell-in-form τ op c y e = rw (e, size-fits op y)
+
+-- a `|` has no words, and nothing else to fit
+pub either-in-form : (τ : ℕ) (c : List ℕ) → eqb (length c) 0 ≡ cellInForm τ Either c
+unfolding cellInForm sizeFits cellFits
+either-in-form τ c = go (eqb (length c) 0)
+  where
+    go : (b : Bool) → b ≡ cond b true false
+    go true = refl
+    go false = refl

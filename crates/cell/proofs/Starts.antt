@@ -1,19 +1,23 @@
 -- The starts of a cell in order, put one after the other among others. Assumes nothing.
 use mathlib.Core.Path.{_≡_, refl, sym, ap, _∙_}
+use mathlib.Core.Bool.{Bool, true, false}
 use mathlib.Core.List.{List, [], _∷_, _++_, append-assoc}
 use Prim.Native.Nat.{ℕ, zero, suc, _+_, _-_, _*_, _/_, _≤_, _<_}
 use native.Mathlib.Nat.{add-zero}
 use native.Mathlib.Omega.{arith}
 use native.Mathlib.Numerals.{add-one}
+use lib.Dec.{leb}
 use lib.ListN.{length, take, drop, getD, set, length-drop, take-append-drop, List·getD-append}
 use lib.Seq.{paste, paste-suc, take-length, getD-drop, getD-at, sets-eq}
+use borrow.Author.Tests.{leb-true, leb-false, le-leb, lt-leb, eq-eqb, ne-eqb}
 use Rattle.rules.specs.declared.Op.{Op}
 use Rattle.rules.specs.declared.Op.the-variants.{Both, Chain}
 use Rattle.cell.specs.Words.{startsIn}
 use Rattle.cell.specs.Cell.{cellWords, cellStarts}
-use Rattle.cell.specs.Calls.{Paired, PushReady, Pushed}
+use Rattle.cell.specs.Form.{sizeFits}
+use Rattle.cell.specs.Calls.{Paired, Pushed, startsFit, PushAnswers}
 use Rattle.cell.proofs.Words.{length-starts-in, length-cell-starts}
-use Rattle.cell.proofs.Sizes.{both-words, chain-words}
+use Rattle.cell.proofs.Sizes.{size-fits, chain-paired}
 
 starts-at : (c : List ℕ) (i : ℕ) → 2 * i + 1 < length c → getD (startsIn c) i 0 ≡ getD c (2 * i) 0
 unfolding startsIn
@@ -92,15 +96,55 @@ push-two c s at h =
       place = refl;
     }
 
-module _ {op : Op} {c s : List ℕ} {at : ℕ} (r : PushReady op c s at) where
-  pub both-ready : op ≡ Both → (4 ≤ length c) × (at + 2 ≤ length s)
-  unfolding cellStarts
-  both-ready e =
-      let k : at + length (cellStarts Both c) ≤ length s = rw e at (r .room) in
-      (omega (arith, both-words (r .sized) e), k)
+-- starts are put only where they fit
+module _ {op : Op} {c s : List ℕ} {at : ℕ} {s′ : List ℕ} {r : ℕ} (q : startsFit op c s at ≡ true) where
+  pub push-answers : Pushed op c s at s′ r → PushAnswers op c s at s′ r
+  push-answers k = record { starts = rw q (k .starts); place = rw q (k .place) }
 
-  pub chain-ready : op ≡ Chain → Paired (length c) × (at + length c / 2 ≤ length s)
-  chain-ready e =
-      let p = chain-words (r .sized) e in
-      let k : at + length (cellStarts Chain c) ≤ length s = rw e at (r .room) in
-      (p, omega (arith, length-chain-starts c p))
+  pub push-answered : PushAnswers op c s at s′ r → Pushed op c s at s′ r
+  push-answered k = record { starts = rw q at (k .starts); place = rw q at (k .place) }
+
+module _ (op : Op) (c s : List ℕ) (at : ℕ) where
+  pub push-left : startsFit op c s at ≡ false → PushAnswers op c s at s at
+  push-left q = record { starts = rw q; place = rw q }
+
+  -- where there are none it is all the same
+  pub push-same : cellStarts op c ≡ [] → PushAnswers op c s at s at
+  push-same e = go (startsFit op c s at) refl
+    where
+      go : (b : Bool) → startsFit op c s at ≡ b → PushAnswers op c s at s at
+      go true q = push-answers q (push-none op c s at e)
+      go false q = push-left q
+
+  pub starts-fit : sizeFits op (length c) ≡ true → startsFit op c s at ≡ leb (at + length (cellStarts op c)) (length s)
+  unfolding startsFit
+  starts-fit q = rw q
+
+  pub starts-not : sizeFits op (length c) ≡ false → startsFit op c s at ≡ false
+  unfolding startsFit
+  starts-not q = rw q
+
+  -- the starts of the operator's cell fit where they have room
+  pub cell-starts-fit : (y : ℕ) → length c ≡ cellWords op y → at + length (cellStarts op c) ≤ length s → startsFit op c s at ≡ true
+  cell-starts-fit y e h =
+      starts-fit (ap (sizeFits op) e ∙ size-fits op y) ∙ le-leb (at + length (cellStarts op c)) (length s) h
+
+module _ (c s : List ℕ) (at : ℕ) where
+  pub both-starts-fit : length c ≡ 4 → startsFit Both c s at ≡ leb (at + 2) (length s)
+  unfolding sizeFits cellStarts
+  both-starts-fit e = starts-fit Both c s at (eq-eqb (length c) 4 e)
+
+  pub both-starts-not : (length c ≡ 4 → ⊥) → startsFit Both c s at ≡ false
+  unfolding sizeFits
+  both-starts-not n = starts-not Both c s at (ne-eqb (length c) 4 n)
+
+  pub chain-starts-fit : sizeFits Chain (length c) ≡ true → startsFit Chain c s at ≡ leb (at + length c / 2) (length s)
+  chain-starts-fit q = starts-fit Chain c s at q ∙ ap (λ (k : ℕ). leb (at + k) (length s)) (length-chain-starts c (chain-paired (length c) q))
+
+-- n words have room at a place exactly if those after it are as many
+pub room-after : (m at n : ℕ) → at ≤ m → leb n (m - at) ≡ leb (at + n) m
+room-after m at n h = go (leb n (m - at)) refl
+  where
+    go : (b : Bool) → leb n (m - at) ≡ b → leb n (m - at) ≡ leb (at + n) m
+    go true q = q ∙ sym (le-leb (at + n) m (omega (arith, leb-true n (m - at) q)))
+    go false q = q ∙ sym (lt-leb (at + n) m (omega (arith, leb-false n (m - at) q)))

@@ -1,5 +1,6 @@
 -- What a tick makes of a cell, put together from its parts. Assumes nothing.
 use mathlib.Core.Path.{_≡_, refl, sym, ap, _∙_}
+use mathlib.Core.Bool.{true, false}
 use mathlib.Core.List.{List, [], _∷_}
 use Prim.Native.Nat.{ℕ, suc, _+_, _≤_, _<_, min, max}
 use native.Mathlib.Decide.{decLt}
@@ -7,6 +8,7 @@ use native.Mathlib.Omega.{arith}
 use native.Mathlib.Numerals.{add-one}
 use lib.ListN.{length, getD, set}
 use lib.Seq.{set-getD}
+use Rattle.rules.specs.declared.Op.{Op}
 use Rattle.rules.specs.declared.Op.the-variants.{Either, Both, Without, Chain}
 use Rattle.rules.proofs.Decisions.{pick-yes, pick-no}
 use Rattle.detector.specs.Memory.{Span}
@@ -15,7 +17,7 @@ use Rattle.detector.specs.Step.{later}
 use Rattle.cell.specs.Words.{spanAt}
 use Rattle.cell.specs.Cell.{pairsOf, cellAnswer, cellAfter}
 use Rattle.cell.specs.Pairs.{putSpan}
-use Rattle.cell.specs.Calls.{Stepped, Renewed, keptAfter}
+use Rattle.cell.specs.Calls.{isCell, Stepped, StepAnswers, Renewed, keptAfter}
 
 module _ (c : List ℕ) (at a t : ℕ) where
   pub renew-later : getD c at 0 < a → Renewed c at a t (set (set c at a) (at + 1) (t + 1)) a
@@ -98,3 +100,14 @@ chain-stepped t x y ys (a ∷ []) c₁ c₂ start r n k h e = absurd (omega arit
 pub either-stepped : (t x y : ℕ) (ys c : List ℕ) (r : ℕ) → r ≡ max x y → Stepped Either t x y ys c c r
 unfolding cellAnswer cellAfter
 either-stepped t x y ys c r e = record { answer = e; after = refl }
+
+-- only the operator's cell is stepped
+module _ {op : Op} {t x y : ℕ} {ys c c′ : List ℕ} {r : ℕ} (q : isCell op (length ys) (length c) ≡ true) where
+  pub step-answers : Stepped op t x y ys c c′ r → StepAnswers op t x y ys c c′ r
+  step-answers k = record { answer = rw q (k .answer); after = rw q (k .after) }
+
+  pub step-answered : StepAnswers op t x y ys c c′ r → Stepped op t x y ys c c′ r
+  step-answered k = record { answer = rw q at (k .answer); after = rw q at (k .after) }
+
+pub step-left : (op : Op) (t x y : ℕ) (ys c : List ℕ) → isCell op (length ys) (length c) ≡ false → StepAnswers op t x y ys c c 0
+step-left op t x y ys c q = record { answer = rw q; after = rw q }

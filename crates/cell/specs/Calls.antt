@@ -1,7 +1,9 @@
 -- What the functions on a cell require and promise. Assumes nothing: these are definitions.
 use mathlib.Core.Path.{_≡_}
+use mathlib.Core.Bool.{Bool, false, cond}
 use mathlib.Core.List.{List, _++_}
 use Prim.Native.Nat.{ℕ, _+_, _-_, _*_, _/_, _%_, _≤_, _<_}
+use lib.Dec.{leb, eqb}
 use lib.ListN.{length, take, drop}
 use Rattle.rules.specs.declared.Op.{Op}
 use Rattle.rules.specs.Limits.{ticks}
@@ -11,17 +13,17 @@ use Rattle.detector.specs.Step.{later}
 use Rattle.detector.specs.Form.{Sorted}
 use Rattle.cell.specs.Words.{spanAt, keptWords}
 use Rattle.cell.specs.Cell.{cellWords, pairsOf, cellAnswer, cellAfter, cellStarts}
+use Rattle.cell.specs.Form.{sizeFits}
 use Rattle.cell.specs.Pairs.{spansFrom, putSpan}
-
--- n words are a cell of the operator, for some p(y)
-pub record Sized (op : Op) (n : ℕ) : Type 0 where
-  pub right : ℕ
-  pub words : n ≡ cellWords op right
 
 -- n words are whole pairs, at least one
 pub record Paired (n : ℕ) : Type 0 where
   pub some : 2 ≤ n
   pub even : n % 2 ≡ 0
+
+-- n words are the operator's cell, where its right operand has y possible starts; no cell has more than 126
+unfoldable pub isCell : Op → ℕ → ℕ → Bool
+isCell op y n = cond (eqb n (cellWords op y)) (leb n 126) false
 
 -- a tick may step the cell c of the operator, where ys are y's possible starts
 pub record StepReady (op : Op) (t : ℕ) (ys c : List ℕ) : Type 0 where
@@ -33,6 +35,11 @@ pub record StepReady (op : Op) (t : ℕ) (ys c : List ℕ) : Type 0 where
 pub record Stepped (op : Op) (t x y : ℕ) (ys c c′ : List ℕ) (r : ℕ) : Type 0 where
   pub answer : r ≡ cellAnswer op t x y c
   pub after : c′ ≡ cellAfter op t x y ys c
+
+-- the operator's cell is stepped; any other words are left as they were, and the answer is 0
+pub record StepAnswers (op : Op) (t x y : ℕ) (ys c c′ : List ℕ) (r : ℕ) : Type 0 where
+  pub answer : r ≡ cond (isCell op (length ys) (length c)) (cellAnswer op t x y c) 0
+  pub after : c′ ≡ cond (isCell op (length ys) (length c)) (cellAfter op t x y ys c) c
 
 -- the pair at a place became the answer a where that starts strictly later, and r is its start
 pub record Renewed (c : List ℕ) (at a t : ℕ) (c′ : List ℕ) (r : ℕ) : Type 0 where
@@ -84,12 +91,16 @@ pub record KeepReady (c : List ℕ) (n : ℕ) (ys : List ℕ) : Type 0 where
 abbrev pub keptAfter : List ℕ → List ℕ → List ℕ
 keptAfter ys c = take 2 c ++ keptWords (length ys) (gather (pairsOf c) ys)
 
--- the cell is one of the operator, and its starts have room at a place among those of its operands
-pub record PushReady (op : Op) (c s : List ℕ) (at : ℕ) : Type 0 where
-  pub sized : Sized op (length c)
-  pub room : at + length (cellStarts op c) ≤ length s
+-- the words are a cell of the operator, and its starts have room at a place among those of its operands
+unfoldable pub startsFit : Op → List ℕ → List ℕ → ℕ → Bool
+startsFit op c s at = cond (sizeFits op (length c)) (leb (at + length (cellStarts op c)) (length s)) false
 
 -- its starts stand there, the rest is as it was, and r is the place after them
 pub record Pushed (op : Op) (c s : List ℕ) (at : ℕ) (s′ : List ℕ) (r : ℕ) : Type 0 where
   pub starts : s′ ≡ take at s ++ (cellStarts op c ++ drop (at + length (cellStarts op c)) s)
   pub place : r ≡ at + length (cellStarts op c)
+
+-- the starts are put where they fit; else all is as it was, and r is the place itself
+pub record PushAnswers (op : Op) (c s : List ℕ) (at : ℕ) (s′ : List ℕ) (r : ℕ) : Type 0 where
+  pub starts : s′ ≡ cond (startsFit op c s at) (take at s ++ (cellStarts op c ++ drop (at + length (cellStarts op c)) s)) s
+  pub place : r ≡ cond (startsFit op c s at) (at + length (cellStarts op c)) at

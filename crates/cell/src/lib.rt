@@ -4,6 +4,7 @@ ghost use mathlib.Core.Path.{_≡_};
 ghost use mathlib.Core.List.{List, _++_};
 ghost use Prim.Native.Nat.{ℕ, _+_, _*_, _/_, _<_, _≤_, min, max};
 ghost use native.Mathlib.Decide.{decLt};
+ghost use lib.Dec.{leb};
 ghost use lib.ListN.{length, take, drop, getD};
 ghost use Rattle.rules.specs.declared.Op.the-variants.{Both, Without, Chain};
 ghost use Rattle.rules.specs.Decisions.{pick};
@@ -11,10 +12,10 @@ ghost use Rattle.rules.specs.Limits.{ticks};
 ghost use Rattle.detector.specs.Choice.{better, choose, insert, keep};
 ghost use Rattle.cell.specs.Words.{spanAt};
 ghost use Rattle.cell.specs.Cell.{cellWords, possible, pairsOf};
-ghost use Rattle.cell.specs.Form.{pairFits, allZero, keptFits, cellFits};
+ghost use Rattle.cell.specs.Form.{pairFits, allZero, keptFits, sizeFits, cellInForm};
 ghost use Rattle.cell.specs.Pairs.{spanOf, spansFrom, putSpan};
-ghost use Rattle.cell.specs.Calls.{Sized, Paired, StepReady, Stepped, Renewed, PairsIn};
-ghost use Rattle.cell.specs.Calls.{InsertReady, Grown, GatherReady, Gathered, StoreReady, newWords, KeepReady, keptAfter, PushReady, Pushed};
+ghost use Rattle.cell.specs.Calls.{Paired, isCell, StepReady, Stepped, StepAnswers, Renewed, PairsIn};
+ghost use Rattle.cell.specs.Calls.{InsertReady, Grown, GatherReady, Gathered, StoreReady, newWords, KeepReady, keptAfter, Pushed, PushAnswers};
 
 // A pair: start + 1 and end + 1, or 0 and 0 for none.
 struct Pair {
@@ -23,66 +24,84 @@ struct Pair {
 }
 
 // The words of an operator's cell, where its right operand has y possible starts.
-pub fn cell_words(op: Op, y: usize) -> usize
-    requires { ⌜ y ≤ 62 ⌝ }
+pub fn cell_words(op: Op, y: u8) -> usize
     ensures { λ r. ⌜ r ≡ cellWords op y ⌝ }
 {
     match op {
         Op::Either => 0,
         Op::Both => 4,
         Op::Without => 1,
-        Op::Chain => 2 * (1 + y),
+        Op::Chain => 2 * (1 + y as usize),
     }
 }
 
 // How many possible starts an operator has, from those of its operands.
-pub fn possible_of(op: Op, x: usize, y: usize) -> usize
-    requires { ⌜ x + y ≤ 200 ⌝ }
+pub fn possible_of(op: Op, x: u8, y: u8) -> usize
     ensures { λ r. ⌜ r ≡ possible op x y ⌝ }
 {
     match op {
-        Op::Either => x + y,
-        Op::Both => x + y + 2,
-        Op::Without => x,
-        Op::Chain => x + y + 1,
+        Op::Either => x as usize + y as usize,
+        Op::Both => x as usize + y as usize + 2,
+        Op::Without => x as usize,
+        Op::Chain => x as usize + y as usize + 1,
     }
 }
 
-// Whether a cell is in form, where the next tick allowed is given.
+// Whether words are a cell of the operator and in form, where the next tick allowed is given.
 pub fn cell_fits(op: Op, cell: &[u64], next: u64) -> bool
-    requires { ⌜ Sized op (length (now cell)) ⌝ }
-    ensures { λ r. ⌜ r ≡ cellFits next op (now (cell .entry)) ⌝ }
+    ensures { λ r. ⌜ r ≡ cellInForm next op (now (cell .entry)) ⌝ }
 {
     match op {
-        Op::Either => true,
+        Op::Either => cell.len() == 0,
         Op::Both => both_fits(cell, next),
-        Op::Without => cell[0] <= next,
+        Op::Without => without_fits(cell, next),
         Op::Chain => chain_fits(cell, next),
     }
 }
 
 // Left and right.
 fn both_fits(cell: &[u64], next: u64) -> bool
-    requires { ⌜ 4 ≤ length (now cell) ⌝ }
-    ensures { λ r. ⌜ r ≡ cellFits next Both (now (cell .entry)) ⌝ }
+    ensures { λ r. ⌜ r ≡ cellInForm next Both (now (cell .entry)) ⌝ }
 {
-    if pair_fits(cell[0], cell[1], next) {
-        pair_fits(cell[2], cell[3], next)
-    } else {
-        false
+    if cell.len() != 4 {
+        return false;
     }
+    if pair_fits(cell[0], cell[1], next) {
+        return pair_fits(cell[2], cell[3], next);
+    }
+    false
+}
+
+// The latest start of y seen.
+fn without_fits(cell: &[u64], next: u64) -> bool
+    ensures { λ r. ⌜ r ≡ cellInForm next Without (now (cell .entry)) ⌝ }
+{
+    if cell.len() != 1 {
+        return false;
+    }
+    cell[0] <= next
 }
 
 // Latest and the kept pairs.
 fn chain_fits(cell: &[u64], next: u64) -> bool
-    requires { ⌜ Paired (length (now cell)) ⌝ }
-    ensures { λ r. ⌜ r ≡ cellFits next Chain (now (cell .entry)) ⌝ }
+    ensures { λ r. ⌜ r ≡ cellInForm next Chain (now (cell .entry)) ⌝ }
 {
-    if pair_fits(cell[0], cell[1], next) {
-        kept_fits(cell, next)
-    } else {
-        false
+    if whole_pairs(cell.len()) {
+        if pair_fits(cell[0], cell[1], next) {
+            return kept_fits(cell, next);
+        }
     }
+    false
+}
+
+// Whether n words are whole pairs, at least one.
+fn whole_pairs(n: usize) -> bool
+    ensures { λ r. ⌜ r ≡ sizeFits Chain n ⌝ }
+{
+    if n < 2 {
+        return false;
+    }
+    n % 2 == 0
 }
 
 // Whether a pair is empty, or ends no earlier than it starts and before the next tick.
@@ -139,17 +158,46 @@ fn all_zero(cell: &[u64], from: usize) -> bool
 }
 
 // Steps a cell at a tick t and gives the answer, from the answers x and y of its operands and the possible starts of the right one.
-// The operands' own steps come first.
-pub fn cell_step(op: Op, cell: &mut [u64], starts: &[u64], x: u64, y: u64, t: u64) -> u64
-    requires { ⌜ StepReady op t (now starts) (now cell) ⌝ }
-    ensures { λ r. ⌜ Stepped op t x y (now (starts .entry)) (now (cell .entry)) (now (cell .exit)) r ⌝ }
+// The operands' own steps come first. Words that are not the operator's cell for these starts are left as they are, and the answer is 0.
+pub fn cell_step(op: Op, cell: &mut [u64], starts: &[u64], x: u64, y: u64, t: u32) -> u64
+    ensures { λ r. ⌜ StepAnswers op t x y (now (starts .entry)) (now (cell .entry)) (now (cell .exit)) r ⌝ }
 {
     match op {
-        Op::Either => larger(x, y),
-        Op::Both => both_step(cell, x, y, t),
-        Op::Without => without_step(cell, x, y),
-        Op::Chain => chain_step(cell, starts, x, y, t),
+        Op::Either => {
+            if cell.len() == 0 {
+                return larger(x, y);
+            }
+            0
+        }
+        Op::Both => {
+            if cell.len() == 4 {
+                return both_step(cell, x, y, t as u64);
+            }
+            0
+        }
+        Op::Without => {
+            if cell.len() == 1 {
+                return without_step(cell, x, y);
+            }
+            0
+        }
+        Op::Chain => {
+            if is_chain(starts.len(), cell.len()) {
+                return chain_step(cell, starts, x, y, t as u64);
+            }
+            0
+        }
     }
+}
+
+// Whether n words are the cell of a `;` whose right operand has y possible starts, at most 62.
+fn is_chain(y: usize, n: usize) -> bool
+    ensures { λ r. ⌜ r ≡ isCell Chain y n ⌝ }
+{
+    if 62 < y {
+        return false;
+    }
+    n == 2 * (1 + y)
 }
 
 // The greater of min(x, right) and min(left, y), left and right as they become.
@@ -393,9 +441,9 @@ fn word_or_zero(words: &[u64], n: usize, i: usize) -> u64
 }
 
 // Puts the starts that a cell adds at a place among those of its operands, and gives the place after them.
+// Where the words are not a cell of the operator, or its starts have no room there, nothing is put.
 pub fn push_starts(op: Op, cell: &[u64], starts: &mut [u64], at: usize) -> usize
-    requires { ⌜ PushReady op (now cell) (now starts) at ⌝ }
-    ensures { λ r. ⌜ Pushed op (now (cell .entry)) (now (starts .entry)) at (now (starts .exit)) r ⌝ }
+    ensures { λ r. ⌜ PushAnswers op (now (cell .entry)) (now (starts .entry)) at (now (starts .exit)) r ⌝ }
 {
     match op {
         Op::Either => at,
@@ -407,16 +455,43 @@ pub fn push_starts(op: Op, cell: &[u64], starts: &mut [u64], at: usize) -> usize
 
 // Left's start, then right's.
 fn push_both(cell: &[u64], starts: &mut [u64], at: usize) -> usize
-    requires { ⌜ (4 ≤ length (now cell)) × (at + 2 ≤ length (now starts)) ⌝ }
-    ensures { λ r. ⌜ Pushed Both (now (cell .entry)) (now (starts .entry)) at (now (starts .exit)) r ⌝ }
+    ensures { λ r. ⌜ PushAnswers Both (now (cell .entry)) (now (starts .entry)) at (now (starts .exit)) r ⌝ }
 {
-    starts[at] = cell[0];
-    starts[at + 1] = cell[2];
-    at + 2
+    if cell.len() != 4 {
+        return at;
+    }
+    if has_room(starts.len(), at, 2) {
+        starts[at] = cell[0];
+        starts[at + 1] = cell[2];
+        return at + 2;
+    }
+    at
 }
 
 // The starts of the kept pairs, empty ones too, then latest's.
 fn push_chain(cell: &[u64], starts: &mut [u64], at: usize) -> usize
+    ensures { λ r. ⌜ PushAnswers Chain (now (cell .entry)) (now (starts .entry)) at (now (starts .exit)) r ⌝ }
+{
+    if whole_pairs(cell.len()) {
+        if has_room(starts.len(), at, cell.len() / 2) {
+            return put_chain(cell, starts, at);
+        }
+    }
+    at
+}
+
+// Whether n words have room at a place among others.
+fn has_room(length: usize, at: usize, n: usize) -> bool
+    ensures { λ r. ⌜ r ≡ leb (at + n) length ⌝ }
+{
+    if length < at {
+        return false;
+    }
+    n <= length - at
+}
+
+// The same where there is room.
+fn put_chain(cell: &[u64], starts: &mut [u64], at: usize) -> usize
     requires { ⌜ Paired (length (now cell)) × (at + length (now cell) / 2 ≤ length (now starts)) ⌝ }
     ensures { λ r. ⌜ Pushed Chain (now (cell .entry)) (now (starts .entry)) at (now (starts .exit)) r ⌝ }
 {

@@ -2,6 +2,7 @@
 -- the right operand or over them, which is the operator's own part of `startsAfter`. Assumes nothing.
 use Prim.Native.Nat.{ℕ, _+_, _-_, _≤_}
 use mathlib.Core.Path.{_≡_, refl, sym, ap, ap₂, subst, _∙_}
+use mathlib.Core.Bool.{true}
 use mathlib.Core.List.{List, [], _++_, append-assoc, append-nil}
 use native.Mathlib.Omega.{arith}
 use lib.ListN.{length, getD, take, drop, set, length-append, length-drop}
@@ -10,7 +11,10 @@ use borrow.Rule.Slice.PartMut.{putMid}
 use Rattle.rules.specs.declared.Op.{Op}
 use Rattle.rules.specs.declared.Op.the-variants.{Either, Both, Without, Chain}
 use Rattle.cell.specs.Cell.{cellWords, possible, cellAnswer, cellAfter, cellStarts, startsAfter}
-use Rattle.cell.specs.Calls.{StepReady, Stepped, PushReady, Pushed}
+use Rattle.cell.specs.Calls.{isCell, Stepped, StepAnswers, startsFit, Pushed, PushAnswers}
+use Rattle.cell.proofs.Sizes.{is-cell}
+use Rattle.cell.proofs.Steps.{step-answered}
+use Rattle.cell.proofs.Starts.{cell-starts-fit, push-answered}
 use Rattle.cell.proofs.Words.{length-after, length-cell-starts, length-starts-after}
 use Rattle.watcher.specs.Step.{segment, over, ownFrom, PairReady, PairDone}
 
@@ -82,13 +86,16 @@ module _ {op : Op} {s answers base starts : List ℕ} {d at t : ℕ} (p : PairRe
       ap (λ (k : ℕ). length (take k (drop at s))) span
       ∙ length-take-le n (drop at s) (omega (arith, length-drop at s, subst (λ (k : ℕ). at + k ≤ length s) (sym q) (p .cell)))
 
-  pub pair-steps : StepReady op t ys lent
-  pair-steps = record { range = p .range; few = omega (arith, length-ys, p .few, p .starts-long); words = length-lent ∙ words-here }
+  lent-cell : isCell op (length ys) (length lent) ≡ true
+  lent-cell = is-cell op (length ys) (length lent) (omega (arith, length-ys, p .few, p .starts-long)) (length-lent ∙ words-here)
 
-  module _ {new : List ℕ} {a : ℕ} (k : Stepped op t (getD answers (d - 1) 0) (getD answers d 0) ys lent new a) where
+  module _ {new : List ℕ} {a : ℕ} (k : StepAnswers op t (getD answers (d - 1) 0) (getD answers d 0) ys lent new a) where
+    stepped : Stepped op t (getD answers (d - 1) 0) (getD answers d 0) ys lent new a
+    stepped = step-answered lent-cell k
+
     length-new : length new ≡ n
     length-new =
-        ap length (k .after)
+        ap length (stepped .after)
         ∙ length-after op t (getD answers (d - 1) 0) (getD answers d 0) ys lent (length-lent ∙ words-here)
         ∙ sym words-here
 
@@ -102,15 +109,14 @@ module _ {op : Op} {s answers base starts : List ℕ} {d at t : ℕ} (p : PairRe
         ≡ getD base d 0 + possible op 0 (getD base (d + 1) 0 - getD base d 0)
     pushed-end = own-end op (getD base d 0) (getD base (d + 1) 0) new (p .rises) (length-new ∙ q)
 
-    module _ {f : ℕ} (o : f ≡ ownFrom op (getD base d 0) (getD base (d + 1) 0)) where
-      pub pair-pushes : PushReady op (take (at + n - at) (drop at (putMid at (at + n - at) s new))) starts f
-      pair-pushes = rw (back, o) (record {
-        sized = record { right = length ys; words = length-new ∙ words-here };
-        room = omega (arith, pushed-end, p .room, p .starts-long);
-      })
+    pushed-fit : startsFit op new starts (ownFrom op (getD base d 0) (getD base (d + 1) 0)) ≡ true
+    pushed-fit =
+        cell-starts-fit op new starts (ownFrom op (getD base d 0) (getD base (d + 1) 0)) (length ys) (length-new ∙ words-here)
+        (omega (arith, pushed-end, p .room, p .starts-long))
 
+    module _ {f : ℕ} (o : f ≡ ownFrom op (getD base d 0) (getD base (d + 1) 0)) where
       pub pair-done : {starts′ : List ℕ} {r : ℕ}
-          → Pushed op (take (at + n - at) (drop at (putMid at (at + n - at) s new))) starts f starts′ r
+          → PushAnswers op (take (at + n - at) (drop at (putMid at (at + n - at) s new))) starts f starts′ r
           → PairDone op s answers base starts d at t (putMid at (at + n - at) s new) (set answers (d - 1) a) (set base d r) starts′ (at + n)
       pair-done {starts′} {r} g =
           let x : ℕ = getD answers (d - 1) 0 in
@@ -118,8 +124,9 @@ module _ {op : Op} {s answers base starts : List ℕ} {d at t : ℕ} (p : PairRe
           let b : ℕ = getD base d 0 in
           let top : ℕ = getD base (d + 1) 0 in
           let w : Pushed op new starts (ownFrom op b top) starts′ r =
-          subst (λ (z : ℕ). Pushed op new starts z starts′ r) o (subst (λ (z : List ℕ). Pushed op z starts f starts′ r) back g) in
-          let e : new ≡ cellAfter op t x y ys was = k .after ∙ ap (cellAfter op t x y ys) lent-was in
+          push-answered pushed-fit
+          (subst (λ (z : ℕ). PushAnswers op new starts z starts′ r) o (subst (λ (z : List ℕ). PushAnswers op z starts f starts′ r) back g)) in
+          let e : new ≡ cellAfter op t x y ys was = stepped .after ∙ ap (cellAfter op t x y ys) lent-was in
           let own : r ≡ b + length (startsAfter op [] ys new) =
           w .place ∙ pushed-end
           ∙ ap (λ (z : ℕ). b + z) (ap (possible op 0) (sym length-ys) ∙ sym (length-starts-after op [] ys new (length-new ∙ words-here))) in
@@ -128,7 +135,7 @@ module _ {op : Op} {s answers base starts : List ℕ} {d at t : ℕ} (p : PairRe
           record {
             place = ap (λ (z : ℕ). at + z) words-here;
             words = ap (λ (z : List ℕ). take at s ++ (new ++ z)) rest ∙ ap (λ (z : List ℕ). over at z s) e;
-            answered = ap (set answers (d - 1)) (k .answer ∙ ap (cellAnswer op t x y) lent-was);
+            answered = ap (set answers (d - 1)) (stepped .answer ∙ ap (cellAnswer op t x y) lent-was);
             based = ap (set base d) (own ∙ ap (λ (z : List ℕ). b + length (startsAfter op [] ys z)) e);
             started =
                 w .starts

@@ -34,9 +34,8 @@ pub record Entered (s : List ℕ) (n : ℕ) : Type 0 where
 unfoldable pub judgedEnd : List ℕ → ℕ
 judgedEnd s = cond (sounds s) (cellsEnd s) 0
 
--- a cell may be judged at a place, where the right operand has y possible starts
-pub record CellReady (s : List ℕ) (at y : ℕ) : Type 0 where
-  pub few : y ≤ 62
+-- a cell may be judged at a place
+pub record CellReady (s : List ℕ) (at : ℕ) : Type 0 where
   pub low : 2 ≤ at
   pub inside : at ≤ length s
 

@@ -62,8 +62,8 @@ fn judged_end(state: &[u64], n: usize) -> usize
                 if d < 2 {
                     return 0;
                 }
-                let y = possible[d - 1] as usize;
-                let x = possible[d - 2] as usize;
+                let y = possible[d - 1];
+                let x = possible[d - 2];
                 let end = cell_end(op, state, at, y);
                 if end == 0 {
                     return 0;
@@ -84,8 +84,8 @@ fn judged_end(state: &[u64], n: usize) -> usize
 }
 
 // The place after the cell of an operator, whose right operand has y possible starts; 0 if the cell is not there or not in form.
-fn cell_end(op: Op, state: &[u64], at: usize, y: usize) -> usize
-    requires { ⌜ CellReady (now state) at y ⌝ }
+fn cell_end(op: Op, state: &[u64], at: usize, y: u8) -> usize
+    requires { ⌜ CellReady (now state) at ⌝ }
     ensures { λ r. ⌜ CellEnds (now (state .entry)) op at y r ⌝ }
 {
     let end = at + cell::cell_words(op, y);

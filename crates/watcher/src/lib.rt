@@ -238,8 +238,8 @@ fn cells_needed(body: &[u8]) -> usize
                 let y = possible[d - 1];
                 let x = possible[d - 2];
                 small(x, y);
-                possible[d - 2] = cell::possible_of(op, x, y);
-                words += cell::cell_words(op, y);
+                possible[d - 2] = cell::possible_of(op, x as u8, y as u8);
+                words += cell::cell_words(op, y as u8);
                 d -= 1;
             }
             Entry::Within(_) => {}

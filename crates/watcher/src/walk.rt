@@ -147,8 +147,8 @@ fn pair(
     let x = answers[d - 1];
     let b = base[d];
     let top = base[d + 1];
-    let end = at + cell::cell_words(op, top - b);
-    answers[d - 1] = cell::cell_step(op, &mut state[at..end], &starts[b..top], x, y, t);
+    let end = at + cell::cell_words(op, (top - b) as u8);
+    answers[d - 1] = cell::cell_step(op, &mut state[at..end], &starts[b..top], x, y, t as u32);
     base[d] = cell::push_starts(op, &state[at..end], starts, own_from(op, b, top));
     end
 }

@@ -1,9 +1,8 @@
 -- `cell::chain_step` meets its contract: the answer and the kept pairs are chosen from the cell as it was, and latest is renewed after them.
 -- Assumes nothing.
-use mathlib.Core.Path.{refl}
+use native.Mathlib.Omega.{arith}
 use borrow.Author.Needs.{needs}
 use Rattle.cell.specs.Cell.{cellWords}
-use Rattle.cell.proofs.Sizes.{chain-words, step-sized}
 use Rattle.cell.proofs.Steps.{chain-stepped}
 use Rattle.cell.proofs.chain_step.Statement.{statement}
 use Rattle.cell.proofs.chain_step.Tie as tie
@@ -20,11 +19,12 @@ same-length : tie.Need-same-length
 same-length c = search needs
 
 returns : tie.Need-returns
+unfolding cellWords
 returns c =
     let d = c .before .before in
     let e = d .before .before .before .before in
     let h = e .before .before .before .before in
-    chain-stepped _ _ (h .args .y) (h .args .starts .now) (h .args .cell .now) _ _ _ _ (chain-words (step-sized (h .pre)) refl .some)
+    chain-stepped _ _ (h .args .y) (h .args .starts .now) (h .args .cell .now) _ _ _ _ (omega (arith, h .pre .words))
     (e .choose-and-keep .ensures .1) (d .renew .ensures) (e .choose-and-keep .ensures .0)
 
 pub chain-step-spec : {M : Type 1} → statement M

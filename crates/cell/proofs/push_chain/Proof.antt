@@ -1,122 +1,55 @@
--- `cell::push_chain` meets its contract. The loop's invariant: the first i starts of the cell stand at the place.
--- Assumes nothing.
-use mathlib.Core.Path.{_≡_, refl}
-use Prim.Native.Nat.{_+_, _*_, _-_, _≤_}
-use native.Mathlib.Omega.{arith}
-use lib.ListN.{length, length-set}
-use lib.Seq.{paste, paste-zero}
+-- `cell::push_chain` meets its contract: the starts are put where the words are whole pairs and there is room. Assumes nothing.
+use mathlib.Core.Path.{_≡_, sym, _∙_}
+use mathlib.Core.Bool.{true}
+use lib.ListN.{length}
+use borrow.Author.Tests.{leb-true}
 use Rattle.rules.specs.declared.Op.the-variants.{Chain}
-use Rattle.cell.specs.Cell.{cellStarts}
-use Rattle.cell.proofs.Starts.{push-kept, push-latest}
+use Rattle.cell.specs.Form.{sizeFits}
+use Rattle.cell.proofs.Sizes.{chain-paired}
+use Rattle.cell.proofs.Starts.{push-answers, push-left, starts-not, chain-starts-fit}
 use borrow.Author.Needs.{needs}
 use Rattle.cell.proofs.push_chain.Statement.{statement}
 use Rattle.cell.proofs.push_chain.Tie as tie
 
-abbrev Inv-loop : tie.InvT-loop
-Inv-loop cell starts₀ at i₀ starts i =
-    (2 * i + 2 ≤ length cell) × (length starts ≡ length starts₀) × (starts ≡ paste starts₀ at (cellStarts Chain cell) i)
+size : (c : tie.Then1) → sizeFits Chain (length (c .before .before .before .before .args .cell .now)) ≡ true
+size c = sym (c .before .whole-pairs .ensures) ∙ c .if1 .taken
 
-abbrev μ-loop : tie.MeasureT-loop
-μ-loop cell starts₀ at i₀ starts i = length cell - i
+whole-pairs-requires : tie.Need-whole-pairs-requires
+whole-pairs-requires c κs = search needs
 
-loop-holds : tie.Need-loop-holds Inv-loop μ-loop
-loop-holds c = (search needs, refl, paste-zero (c .args .starts .now) (c .args .at) (cellStarts Chain (c .args .cell .now)))
+has-room-requires : tie.Need-has-room-requires
+has-room-requires c κs = search needs
 
-mul-loop : tie.Need-mul-loop Inv-loop μ-loop
-mul-loop c = search needs
+put-chain-requires : tie.Need-put-chain-requires
+put-chain-requires c κs =
+    let d = c .before in
+    let k = d .before in
+    (chain-paired _ (size (k .before)), leb-true _ _ (sym (k .has-room .ensures) ∙ d .if2 .taken))
 
-add-loop : tie.Need-add-loop Inv-loop μ-loop
-add-loop c = search needs
-
-mul-starts : tie.Need-mul-starts Inv-loop μ-loop
-mul-starts c = search needs
-
-add-starts : tie.Need-add-starts Inv-loop μ-loop
-add-starts c = search needs
-
-mul-starts-2 : tie.Need-mul-starts-2 Inv-loop μ-loop
-mul-starts-2 c = search needs
-
-shared-slice-read-starts : tie.Need-shared-slice-read-starts Inv-loop μ-loop
-shared-slice-read-starts c = search needs
-
-add-starts-2 : tie.Need-add-starts-2 Inv-loop μ-loop
-add-starts-2 c = search needs
-
-mul-starts-3 : tie.Need-mul-starts-3 Inv-loop μ-loop
-mul-starts-3 c = search needs
-
-slice-write-starts : tie.Need-slice-write-starts Inv-loop μ-loop
-slice-write-starts c = search needs
-
-add-i : tie.Need-add-i Inv-loop μ-loop
-add-i c = search needs
-
-loop-less : tie.Need-loop-less Inv-loop μ-loop
-loop-less c = search needs
-
-loop-again : tie.Need-loop-again Inv-loop μ-loop
-loop-again c =
-    let k = c .before .before in
-    let h = k .before in (
-      omega arith,
-      simp length-set (k .loop .inv .1),
-      push-kept (h .args .cell .now) (h .args .starts .now) (h .args .at) (h .pre .0) (h .pre .1) (k .loop .starts) (k .loop .i) (omega arith)
-          (k .loop .inv .2),
-    )
-
-shared-slice-read-starts-2 : tie.Need-shared-slice-read-starts-2 Inv-loop μ-loop
-shared-slice-read-starts-2 c = search needs
-
-add-starts-3 : tie.Need-add-starts-3 Inv-loop μ-loop
-add-starts-3 c = search needs
-
-mul-starts-4 : tie.Need-mul-starts-4 Inv-loop μ-loop
-mul-starts-4 c = search needs
-
-slice-write-starts-2 : tie.Need-slice-write-starts-2 Inv-loop μ-loop
-slice-write-starts-2 c = search needs
-
-add-result : tie.Need-add-result Inv-loop μ-loop
-add-result c = search needs
-
-add-result-2 : tie.Need-add-result-2 Inv-loop μ-loop
-add-result-2 c = search needs
-
-same-length : tie.Need-same-length Inv-loop μ-loop
+same-length : tie.Need-same-length
 same-length c = search needs
 
-returns : tie.Need-returns Inv-loop μ-loop
+returns : tie.Need-returns
 returns c =
-    let k = c .before .before in
-    let h = k .before in
-    push-latest (h .args .cell .now) (h .args .starts .now) (h .args .at) (h .pre .0) (h .pre .1) (k .loop .starts) (k .loop .i) (omega arith)
-    (k .loop .inv .2)
+    let d = c .before .before in
+    let e = d .before .before in
+    let k = e .before in
+    push-answers (chain-starts-fit _ _ _ (size (k .before)) ∙ sym (k .has-room .ensures) ∙ e .if2 .taken) (d .put-chain .ensures)
+
+returns-2 : tie.Need-returns-2
+returns-2 c = let k = c .before in push-left _ _ _ _ (chain-starts-fit _ _ _ (size (k .before)) ∙ sym (k .has-room .ensures) ∙ c .if2 .left)
+
+returns-3 : tie.Need-returns-3
+returns-3 c = push-left _ _ _ _ (starts-not _ _ _ _ (sym (c .before .whole-pairs .ensures) ∙ c .if1 .left))
 
 pub push-chain-spec : {M : Type 1} → statement M
 push-chain-spec =
     tie.close
     (tie.spec
-    Inv-loop
-    μ-loop
-    loop-holds
-    mul-loop
-    add-loop
-    mul-starts
-    add-starts
-    mul-starts-2
-    shared-slice-read-starts
-    add-starts-2
-    mul-starts-3
-    slice-write-starts
-    add-i
-    loop-less
-    loop-again
-    shared-slice-read-starts-2
-    add-starts-3
-    mul-starts-4
-    slice-write-starts-2
-    add-result
-    add-result-2
+    whole-pairs-requires
+    has-room-requires
+    put-chain-requires
     same-length
-    returns)
+    returns
+    returns-2
+    returns-3)

@@ -1,6 +1,6 @@
 -- `cell::push_starts` meets its contract: each arm is the case of `cellStarts`. Assumes nothing.
 use Rattle.cell.specs.Cell.{cellStarts}
-use Rattle.cell.proofs.Starts.{push-none, both-ready, chain-ready}
+use Rattle.cell.proofs.Starts.{push-same}
 use borrow.Author.Needs.{needs}
 use Rattle.cell.proofs.push_starts.Statement.{statement}
 use Rattle.cell.proofs.push_starts.Tie as tie
@@ -12,7 +12,7 @@ enum-told-2 : tie.Need-enum-told-2
 enum-told-2 c = search needs
 
 push-both-requires : tie.Need-push-both-requires
-push-both-requires c κs = both-ready (c .before .before .before .before .before .pre) (c .before .enum-told2 .given .1)
+push-both-requires c κs = search needs
 
 enum-told-3 : tie.Need-enum-told-3
 enum-told-3 c = search needs
@@ -21,11 +21,11 @@ enum-told-4 : tie.Need-enum-told-4
 enum-told-4 c = search needs
 
 push-chain-requires : tie.Need-push-chain-requires
-push-chain-requires c κs = chain-ready (c .before .before .before .before .before .pre) (c .before .enum-told4 .given .1)
+push-chain-requires c κs = search needs
 
 returns : tie.Need-returns
 unfolding cellStarts
-returns c = push-none _ _ _ _ (rw (c .enum-told .given .1))
+returns c = push-same _ _ _ _ (rw (c .enum-told .given .1))
 
 same-length : tie.Need-same-length
 same-length c = search needs
@@ -37,7 +37,7 @@ returns-2 c =
 
 returns-3 : tie.Need-returns-3
 unfolding cellStarts
-returns-3 c = push-none _ _ _ _ (rw (c .enum-told3 .given .1))
+returns-3 c = push-same _ _ _ _ (rw (c .enum-told3 .given .1))
 
 same-length-2 : tie.Need-same-length-2
 same-length-2 c = search needs

@@ -101,8 +101,14 @@ small-requires c κs =
     let l = k .before .before .before .before .before .loop in
     pair-small (l .possible) (l .d) (l .inv .2) (l .inv .3 .piled) (omega arith) (l .inv .3 .most) _ (pair-entry k)
 
+cast-possible-of : tie.Need-cast-possible-of Inv-loop μ-loop
+cast-possible-of c = omega arith
+
+cast-possible-of-2 : tie.Need-cast-possible-of-2 Inv-loop μ-loop
+cast-possible-of-2 c = omega arith
+
 possible-of-requires : tie.Need-possible-of-requires Inv-loop μ-loop
-possible-of-requires c κs = omega arith
+possible-of-requires c κs = search needs
 
 sub-possible : tie.Need-sub-possible Inv-loop μ-loop
 sub-possible c = omega arith
@@ -113,8 +119,11 @@ mul-possible-2 c = omega arith
 array-write-possible-2 : tie.Need-array-write-possible-2 Inv-loop μ-loop
 array-write-possible-2 c = omega arith
 
+cast-cell-words : tie.Need-cast-cell-words Inv-loop μ-loop
+cast-cell-words c = omega arith
+
 cell-words-requires : tie.Need-cell-words-requires Inv-loop μ-loop
-cell-words-requires c κs = omega arith
+cell-words-requires c κs = search needs
 
 add-words : tie.Need-add-words Inv-loop μ-loop
 add-words c =
@@ -196,10 +205,13 @@ cells-needed-spec =
     mul-x
     array-read-x
     small-requires
+    cast-possible-of
+    cast-possible-of-2
     possible-of-requires
     sub-possible
     mul-possible-2
     array-write-possible-2
+    cast-cell-words
     cell-words-requires
     add-words
     sub-d

@@ -7,6 +7,7 @@ use borrow.Author.Needs.{needs}
 use borrow.Rule.Slice.PartMut.{midOf}
 use Rattle.cell.specs.Cell.{cellWords}
 use Rattle.cell.specs.Form.{cellFits}
+use Rattle.cell.proofs.Fits.{cell-in-form}
 use Rattle.watcher.proofs.Arrays.{part-is, part-long}
 use Rattle.watcher.proofs.Rooming.{words-le}
 use Rattle.watcher.proofs.Judging.{cell-taken, cell-short, cell-broken}
@@ -19,7 +20,7 @@ cell-words-requires c κs = search needs
 add-end : tie.Need-add-end
 add-end c =
     let z = c .before .before in
-    omega (arith, z .pre .inside, z .pre .few, c .cell-words .ensures, words-le (z .args .op) (z .args .y))
+    omega (arith, z .pre .inside, z .fits .y, c .cell-words .ensures, words-le (z .args .op) (z .args .y))
 
 returns : tie.Need-returns
 returns c =
@@ -42,10 +43,7 @@ shared-slice-read-cell-fits : tie.Need-shared-slice-read-cell-fits
 shared-slice-read-cell-fits c = search needs
 
 cell-fits-requires : tie.Need-cell-fits-requires
-cell-fits-requires c κs =
-    let w = c .before .before .before in
-    let z = w .before .before in
-    record { right = _; words = part-long (z .args .state .now) (z .args .at) (w .cell-words .result) (omega arith) ∙ w .cell-words .ensures }
+cell-fits-requires c κs = search needs
 
 -- what the call told of the cell
 told : (c : tie.After-cell-fits)
@@ -57,6 +55,8 @@ told c =
     let z = w .before .before in
     ap (cellFits (getD (z .args .state .now) 1 0) (z .args .op))
     (sym (part-is (z .args .state .now) (z .args .at) (w .cell-words .result) (cellWords (z .args .op) (z .args .y)) (w .cell-words .ensures)))
+    ∙ sym (cell-in-form (getD (z .args .state .now) 1 0) (z .args .op) _ (z .args .y)
+    (part-long (z .args .state .now) (z .args .at) (w .cell-words .result) (omega arith) ∙ w .cell-words .ensures))
     ∙ sym (c .cell-fits .ensures)
 
 returns-2 : tie.Need-returns-2

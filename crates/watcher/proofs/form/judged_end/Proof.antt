@@ -111,19 +111,13 @@ sub-y c = search needs
 array-read-y : tie.Need-array-read-y Inv-loop μ-loop
 array-read-y c = omega (arith, deep (c .before .before .before .before .before))
 
-cast-y : tie.Need-cast-y Inv-loop μ-loop
-cast-y c = omega (arith, small c)
-
 array-read-x : tie.Need-array-read-x Inv-loop μ-loop
 array-read-x c = omega (arith, deep (c .before .before .before .before .before))
-
-cast-x : tie.Need-cast-x Inv-loop μ-loop
-cast-x c = omega (arith, small c)
 
 cell-end-requires : tie.Need-cell-end-requires Inv-loop μ-loop
 cell-end-requires c κs =
     let x = c .before .before .before .before .before .before .loop .inv .2 in
-    record { few = omega (arith, small c); low = x .low; inside = x .inside }
+    record { low = x .low; inside = x .inside }
 
 returns-2 : tie.Need-returns-2 Inv-loop μ-loop
 returns-2 c =
@@ -134,7 +128,7 @@ returns-2 c =
     (c .if2 .taken) (c .before .cell-end .ensures)
 
 possible-of-requires : tie.Need-possible-of-requires Inv-loop μ-loop
-possible-of-requires c κs = omega (arith, small (c .before .before))
+possible-of-requires c κs = search needs
 
 cast-possible : tie.Need-cast-possible Inv-loop μ-loop
 cast-possible c =
@@ -231,9 +225,7 @@ judged-end-spec =
     returns
     sub-y
     array-read-y
-    cast-y
     array-read-x
-    cast-x
     cell-end-requires
     returns-2
     possible-of-requires

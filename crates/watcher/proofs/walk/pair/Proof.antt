@@ -1,6 +1,6 @@
 -- `watcher::walk::pair` meets its contract: the cell that is lent is the operator's, and each write is one of the promise's. Assumes nothing.
 use borrow.Author.Needs.{needs}
-use Rattle.watcher.proofs.Pairing.{pair-steps, pair-pushes, pair-done}
+use Rattle.watcher.proofs.Pairing.{pair-done}
 use Rattle.watcher.proofs.walk.pair.Statement.{statement}
 use Rattle.watcher.proofs.walk.pair.Tie as tie
 
@@ -37,6 +37,9 @@ slice-read-top c = search needs
 sub-cell-words : tie.Need-sub-cell-words
 sub-cell-words c = search needs
 
+cast-cell-words : tie.Need-cast-cell-words
+cast-cell-words c = search needs
+
 cell-words-requires : tie.Need-cell-words-requires
 cell-words-requires c κs = search needs
 
@@ -67,11 +70,11 @@ part-cell-step-start-2 c = search needs
 part-cell-step-end-2 : tie.Need-part-cell-step-end-2
 part-cell-step-end-2 c = search needs
 
+cast-cell-step : tie.Need-cast-cell-step
+cast-cell-step c = search needs
+
 cell-step-requires : tie.Need-cell-step-requires
-cell-step-requires c κs =
-    let w = c .before .before .before in
-    let z = w .before .before .before .before .before .before .before .before .before in
-    pair-steps (z .pre) (w .cell-words .result) (w .cell-words .ensures)
+cell-step-requires c κs = search needs
 
 sub-answers : tie.Need-sub-answers
 sub-answers c = search needs
@@ -98,11 +101,7 @@ own-from-requires : tie.Need-own-from-requires
 own-from-requires c κs = search needs
 
 push-starts-requires : tie.Need-push-starts-requires
-push-starts-requires c κs =
-    let k = c .before .before .before .before .before .before in
-    let w = k .before .before .before .before in
-    let z = w .before .before .before .before .before .before .before .before .before in
-    pair-pushes (z .pre) (w .cell-words .result) (w .cell-words .ensures) (k .cell-step .ensures) (c .own-from .ensures)
+push-starts-requires c κs = search needs
 
 mul-base : tie.Need-mul-base
 mul-base c = search needs
@@ -146,6 +145,7 @@ pair-spec =
     mul-top
     slice-read-top
     sub-cell-words
+    cast-cell-words
     cell-words-requires
     add-end
     mul-cell-step
@@ -156,6 +156,7 @@ pair-spec =
     sub-cell-step-2
     part-cell-step-start-2
     part-cell-step-end-2
+    cast-cell-step
     cell-step-requires
     sub-answers
     mul-answers
