@@ -6,7 +6,6 @@ use native.Mathlib.Decide.{decLt}
 use native.Mathlib.Omega.{arith}
 use native.Mathlib.Numerals.{add-one}
 use lib.ListN.{length, getD, set}
-use lib.Seq.{set-getD}
 use Rattle.rules.specs.declared.Op.the-variants.{Either, Both, Without, Chain}
 use Rattle.rules.proofs.Decisions.{pick-yes, pick-no}
 use Rattle.detector.specs.Memory.{Span}
