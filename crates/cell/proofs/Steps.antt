@@ -7,7 +7,6 @@ use native.Mathlib.Decide.{decLt}
 use native.Mathlib.Omega.{arith}
 use native.Mathlib.Numerals.{add-one}
 use lib.ListN.{length, getD, set}
-use lib.Seq.{set-getD}
 use Rattle.rules.specs.declared.Op.{Op}
 use Rattle.rules.specs.declared.Op.the-variants.{Either, Both, Without, Chain}
 use Rattle.rules.proofs.Decisions.{pick-yes, pick-no}
@@ -19,28 +18,21 @@ use Rattle.cell.specs.Cell.{pairsOf, cellAnswer, cellAfter}
 use Rattle.cell.specs.Pairs.{putSpan}
 use Rattle.cell.specs.Calls.{isCell, Stepped, StepAnswers, Renewed, keptAfter}
 
-module _ (c : List ℕ) (at a t : ℕ) where
-  pub renew-later : getD c at 0 < a → Renewed c at a t (set (set c at a) (at + 1) (t + 1)) a
+-- the answer where it starts strictly later, else the pair
+module _ (p : Span) (a t : ℕ) where
+  pub later-answer : p .start < a → _≡_ {A = Span} (record { start = a; end = t + 1 }) (later p a t)
   unfolding later
-  renew-later h =
-      let q : Span = record { start = a; end = suc t } in
-      let e : later (spanAt c at) a t ≡ q = pick-yes (decLt (getD c at 0) a) q (spanAt c at) h in
-      record {
-        start = ap (λ (k : Span). k .start) (sym e);
-        words = ap (λ (k : ℕ). set (set c at a) (at + 1) k) (add-one t) ∙ ap (putSpan c at) (sym e);
-      }
+  later-answer h = rw (add-one t) (sym (pick-yes (decLt (p .start) a) (record { start = a; end = suc t }) p h))
 
-  pub renew-not : a ≤ getD c at 0 → Renewed c at a t c (getD c at 0)
+  pub later-left : a ≤ p .start → p ≡ later p a t
   unfolding later
-  renew-not h =
-      let q : Span = record { start = a; end = suc t } in
-      let e : later (spanAt c at) a t ≡ spanAt c at = pick-no (decLt (getD c at 0) a) q (spanAt c at) (λ k. omega arith) in
-      record {
-        start = ap (λ (k : Span). k .start) (sym e);
-        words =
-            sym (set-getD c (at + 1) 0) ∙ ap (λ (l : List ℕ). set l (at + 1) (getD c (at + 1) 0)) (sym (set-getD c at 0))
-            ∙ ap (putSpan c at) (sym e);
-      }
+  later-left h = sym (pick-no (decLt (p .start) a) (record { start = a; end = suc t }) p (λ k. omega arith))
+
+-- a pair read, the later, and that stored
+pub renewed : (c c′ : List ℕ) (at a t : ℕ) (q p : Span) → q ≡ spanAt c at → p ≡ later q a t → c′ ≡ putSpan c at p → Renewed c at a t c′ (p .start)
+renewed c c′ at a t q p read made put =
+    let e : p ≡ later (spanAt c at) a t = made ∙ ap (λ (k : Span). later k a t) read in
+    record { start = ap (λ (k : Span). k .start) e; words = put ∙ ap (putSpan c at) e }
 
 -- `+`: left and right renewed
 pub both-stepped :

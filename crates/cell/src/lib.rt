@@ -10,6 +10,7 @@ ghost use Rattle.rules.specs.declared.Op.the-variants.{Both, Without, Chain};
 ghost use Rattle.rules.specs.Decisions.{pick};
 ghost use Rattle.rules.specs.Limits.{ticks};
 ghost use Rattle.detector.specs.Choice.{better, choose, insert, keep};
+ghost use Rattle.detector.specs.Step.{later};
 ghost use Rattle.cell.specs.Words.{spanAt};
 ghost use Rattle.cell.specs.Cell.{cellWords, possible, pairsOf};
 ghost use Rattle.cell.specs.Form.{pairFits, allZero, keptFits, sizeFits, cellInForm};
@@ -270,17 +271,28 @@ fn lesser(a: u64, b: u64) -> u64
 }
 
 // The pair at a place becomes the answer at t where that starts strictly later; gives its start.
+// It is stored either way: whether an answer comes cannot be foretold, so a branch here is dear.
 fn renew(cell: &mut [u64], at: usize, answer: u64, t: u64) -> u64
     requires { ⌜ (at + 1 < length (now cell)) × (t < ticks) ⌝ }
     ensures { λ r. ⌜ Renewed (now (cell .entry)) at answer t (now (cell .exit)) r ⌝ }
 {
-    let start = cell[at];
-    if start < answer {
-        cell[at] = answer;
-        cell[at + 1] = t + 1;
-        return answer;
+    let pair = later_of(pair_at(cell, at), answer, t);
+    put_pair(cell, at, pair);
+    pair.start
+}
+
+// The pair of an answer at t if that starts strictly later than another, else the other.
+fn later_of(p: Pair, answer: u64, t: u64) -> Pair
+    requires { ⌜ t < ticks ⌝ }
+    ensures { λ r. ⌜ spanOf r ≡ later (spanOf p) answer t ⌝ }
+{
+    if p.start < answer {
+        return Pair {
+            start: answer,
+            end: t + 1,
+        };
     }
-    start
+    p
 }
 
 // How many pairs a chain's cell has: latest, and the kept ones before the first empty one.

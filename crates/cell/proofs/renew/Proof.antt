@@ -1,54 +1,30 @@
--- `cell::renew` meets its contract: the test is that of `later`. Assumes nothing.
-use Rattle.cell.proofs.Steps.{renew-later, renew-not}
+-- `cell::renew` meets its contract: a pair is read, and the later stored. Assumes nothing.
+use Rattle.cell.specs.Pairs.{spanOf}
+use Rattle.cell.proofs.Steps.{renewed}
 use borrow.Author.Needs.{needs}
 use Rattle.cell.proofs.renew.Statement.{statement}
 use Rattle.cell.proofs.renew.Tie as tie
 
-mul-start : tie.Need-mul-start
-mul-start c = search needs
+pair-at-requires : tie.Need-pair-at-requires
+pair-at-requires c κs = search needs
 
-slice-read-start : tie.Need-slice-read-start
-slice-read-start c = search needs
+later-of-requires : tie.Need-later-of-requires
+later-of-requires c κs = search needs
 
-mul-cell : tie.Need-mul-cell
-mul-cell c = search needs
-
-slice-write-cell : tie.Need-slice-write-cell
-slice-write-cell c = search needs
-
-add-cell : tie.Need-add-cell
-add-cell c = search needs
-
-add-cell-2 : tie.Need-add-cell-2
-add-cell-2 c = search needs
-
-mul-cell-2 : tie.Need-mul-cell-2
-mul-cell-2 c = search needs
-
-slice-write-cell-2 : tie.Need-slice-write-cell-2
-slice-write-cell-2 c = search needs
+put-pair-requires : tie.Need-put-pair-requires
+put-pair-requires c κs = search needs
 
 same-length : tie.Need-same-length
 same-length c = search needs
 
 returns : tie.Need-returns
-returns c = renew-later _ _ _ _ (c .if1 .taken)
-
-returns-2 : tie.Need-returns-2
-returns-2 c = renew-not _ _ _ _ (c .if1 .left)
+returns c =
+    let put = c .before .before in
+    let made = put .before .before in
+    let read = made .before in
+    renewed _ _ _ _ _ (spanOf (read .pair-at .result)) (spanOf (made .later-of .result)) (read .pair-at .ensures) (made .later-of .ensures)
+    (put .put-pair .ensures)
 
 pub renew-spec : {M : Type 1} → statement M
 renew-spec =
-    tie.close
-    (tie.spec
-    mul-start
-    slice-read-start
-    mul-cell
-    slice-write-cell
-    add-cell
-    add-cell-2
-    mul-cell-2
-    slice-write-cell-2
-    same-length
-    returns
-    returns-2)
+    tie.close (tie.spec pair-at-requires later-of-requires put-pair-requires same-length returns)
