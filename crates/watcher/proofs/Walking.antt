@@ -10,7 +10,6 @@ use lib.Seq.{length-take-le}
 use borrow.Rule.Slice.PartMut.{midOf, putMid}
 use Rattle.rules.specs.declared.Op.{Op}
 use Rattle.rules.specs.Limits.{letters, argumentBytes}
-use Rattle.rules.specs.Lists.{All}
 use Rattle.body.specs.declared.Entry.{Entry}
 use Rattle.body.specs.declared.Entry.the-variants.{Letter, Pair, Within, Wrong}
 use Rattle.body.specs.Entry.{entriesBy}
@@ -24,9 +23,9 @@ use Rattle.watcher.specs.Walk.{formed, ticked, lastAnswer, answerOf, wor
 use Rattle.watcher.proofs.Entries.{run-step}
 use Rattle.watcher.proofs.States.{next-word, state-long}
 use Rattle.watcher.proofs.Judges.{formed-exactly}
-use Rattle.watcher.proofs.Runs.{Ready, startsOn, Small, Stands, Runs, runs-start, walk-start, turn-stands, turn-ready, turn-runs}
+use Rattle.watcher.proofs.Runs.{Ready, startsOn, Stands, Runs, runs-start, walk-start, turn-stands, turn-ready, turn-runs}
 use Rattle.watcher.proofs.Runs.{ready-pair, ready-within, stands-low, stands-few}
-use Rattle.watcher.proofs.Places.{Held, held-start, held-ahead, held-length, held-count, held-entry, held-put, held-end}
+use Rattle.watcher.proofs.Places.{Held, held-start, held-ahead, held-length, held-entry, held-put, held-end}
 use Rattle.watcher.proofs.Calls.{ticked-in-form}
 
 -- before entry i of the old words: s are the words now, the next cell begins at a place, and st is the stack
@@ -55,15 +54,9 @@ module _ {t w : ℕ} {old s : List ℕ} {i at : ℕ} {st : List Value} (x : Walk
   long : 2 + getD old 0 0 ≤ length old
   long = state-long (x .form)
 
-  pub walking-count : getD s 0 0 ≡ getD old 0 0
-  walking-count = held-count old long (x .held)
-
   -- the stack
   stands : Stands t i (getD old 0 0 - i) st
   stands = turn-stands t w (getD old 0 0) i (entryIn old) st (x .cells) (x .runs)
-
-  pub walking-small : All (Small t) st
-  walking-small = stands .small
 
   pub walking-low : i ≤ getD old 0 0 → 2 * length st ≤ getD old 0 0 + 1
   walking-low h = stands-low t (getD old 0 0) i st stands h

@@ -1,10 +1,10 @@
 -- Ticks taken many at once go as their lines go one after the other. Assumes nothing.
 use Prim.Native.Nat.{ℕ, suc, zero, _+_, _-_, _*_, _<_, _≤_}
-use mathlib.Core.Path.{_≡_, refl, sym, ap, _∙_}
+use mathlib.Core.Path.{_≡_, refl, ap, _∙_}
 use mathlib.Core.List.{List, [], _∷_, _++_, append-assoc}
 use native.Mathlib.Omega.{arith}
-use lib.ListN.{length, getD, take, drop, length-drop, length-append, length-take}
-use lib.Seq.{length-take-le, take-all, take-at, getD-take}
+use lib.ListN.{length, getD, take, drop, length-append, length-take}
+use lib.Seq.{take-all, take-at, getD-take}
 use borrow.Rule.Slice.PartMut.{midOf, putMid}
 use Rattle.detector.proofs.Form.{answer-le}
 use Rattle.line.specs.Lines.{mostWritten}
@@ -17,7 +17,7 @@ use Rattle.watching.specs.declared.Run.{Run}
 use Rattle.watching.specs.declared.Taken.{Taken}
 use Rattle.watching.specs.declared.Chunked.{Chunked}
 use Rattle.watching.specs.declared.batch.Gathered.{Gathered}
-use Rattle.watching.specs.Answer.{LineTaken, Windowed}
+use Rattle.watching.specs.Answer.{LineTaken}
 use Rattle.watching.specs.Answer.Windowed.{added}
 use Rattle.watching.specs.Answer.LineTaken.{window as line-window, nothing as line-nothing}
 use Rattle.watching.specs.Chunk.{mostHeld, Bites}
@@ -27,7 +27,7 @@ use Rattle.watching.specs.Batch.TickLines.{none as lines-none, more as l
 use Rattle.watching.specs.Batch.Told.{nothing, window}
 use Rattle.watching.specs.Batch.Tells.{none as tells-none, more as tells-more}
 use Rattle.watching.proofs.Biting.{line-leads}
-use Rattle.watching.proofs.Goings.{lent-rest, writes-on}
+use Rattle.watching.proofs.Goings.{writes-on}
 
 -- an answer is 0, or start + 1 of a window that ends at the tick
 ticked-fair : {s s′ : List ℕ} {t w a : ℕ} → IsTicked s s′ t w a → Fair t a

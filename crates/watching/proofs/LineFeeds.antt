@@ -1,11 +1,11 @@
 -- A tick's line has no line feed in it; so a line feed after it ends it. Assumes nothing.
 use Prim.Native.Nat.{ℕ, zero, suc, _+_, _-_, _/_, _%_, _<_, _≤_}
-use mathlib.Core.Path.{_≡_, refl, sym, ap, _∙_}
+use mathlib.Core.Path.{_≡_, refl, ap, _∙_}
 use mathlib.Core.Bool.{Bool, true, false, cond}
 use mathlib.Core.List.{List, [], _∷_, _++_}
 use native.Mathlib.Omega.{arith}
 use lib.Dec.{ltb, eqb}
-use lib.ListN.{length, getD, take, drop, length-drop, take-append-drop}
+use lib.ListN.{length, getD, take, drop, length-drop}
 use lib.Seq.{split-at, getD-drop, length-take-le}
 use borrow.Author.Tests.{ne-eqb, eqb-true}
 use Rattle.rules.specs.Bits.{bit}

@@ -37,7 +37,7 @@ pub struct Run {
 }
 
 // The run after a line, and the bytes written for it.
-pub struct Taken {
+pub(crate) struct Taken {
     pub run: Run,
     pub written: usize,
 }
@@ -63,13 +63,13 @@ pub enum Finishing {
 }
 
 // What line 1 answers.
-pub enum Beginning {
+pub(crate) enum Beginning {
     Begun,
     Refused(Refusal),
 }
 
 // What a further line answers: a window by its start and end, or none.
-pub enum Stepping {
+pub(crate) enum Stepping {
     Window(u64, u64),
     Nothing,
     Refused(Refusal),

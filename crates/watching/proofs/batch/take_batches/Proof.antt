@@ -6,7 +6,6 @@ use native.Mathlib.Omega.{arith}
 use lib.ListN.{length}
 use Rattle.watching.specs.Going.{Goes}
 use Rattle.watching.proofs.Goings.{writes-length, goes-none, goes-from, goes-then}
-use borrow.Author.Needs.{needs}
 use Rattle.watching.proofs.batch.take_batches.Statement.{statement}
 use Rattle.watching.proofs.batch.take_batches.Tie as tie
 

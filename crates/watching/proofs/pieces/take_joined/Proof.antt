@@ -1,6 +1,5 @@
 -- `watching::pieces::take_joined` meets its contract: the two copies make the line. Assumes nothing.
 use Prim.Native.Nat.{ℕ, _+_, _^_, _<_}
-use mathlib.Core.Path.{_≡_}
 use native.Mathlib.Omega.{arith}
 use lib.ListN.{length-replicate}
 use Rattle.watching.proofs.Appending.{appended-few}

@@ -1,8 +1,5 @@
 -- `watching::pieces::take_last` meets its contract: there is a last line if bytes are held, or if there was no line. Assumes nothing.
-use Prim.Native.Nat.{ℕ}
-use mathlib.Core.Path.{_≡_}
 use mathlib.Core.Logic.{⊎-elim}
-use native.Mathlib.Omega.{arith}
 use Rattle.watching.proofs.Takings.{part-first}
 use Rattle.watching.proofs.Chunkings.{last-none, last-taken}
 use borrow.Author.Needs.{needs}
