@@ -4,7 +4,7 @@
     python3 tests/watch_random.py [CASES]
 
 The rules are those of make_vectors.py: brute force over all instances. Some records have a line that is refused, by document 01's table. Every
-fourth input comes through the pipe in small pieces, so that chunks end anywhere in a line.
+fourth input comes through the pipe in small pieces, so that chunks end anywhere in a line. Every eighth record is longer than the program takes at once.
 """
 import random
 import subprocess
@@ -31,12 +31,12 @@ def fault(rng, t, allowed, w):
     ] + ([('%d %s' % (rng.randrange(allowed), events(w)), 11)] if allowed else []))
 
 
-def case(rng):
+def case(rng, long):
     """An input and its output."""
     kinds = rng.randrange(1, 8)
-    e = pattern(rng, rng.randrange(1, 12), kinds)
+    e = pattern(rng, rng.randrange(1, 6 if long else 12), kinds)
     lines, record, t = [text(e)], {}, rng.choice([0, 0, 7, 4294900000])
-    for _ in range(rng.randrange(0, 24)):
+    for _ in range(rng.randrange(60, 200) if long else rng.randrange(0, 24)):
         w = word(rng, kinds, 0.4) or 1
         record[t] = w
         lines.append('%d %s' % (t, events(w)))
@@ -78,7 +78,7 @@ def main():
     cases = int(sys.argv[1]) if len(sys.argv) > 1 else 400
     rng = random.Random(SEED)
     for i in range(cases):
-        given, wanted = case(rng)
+        given, wanted = case(rng, i % 8 == 5)
         wrote = run(rng, given, i % 4 == 3)
         if wrote != wanted:
             print('case %d: for\n%s\nwritten:\n%snot:\n%s' % (i, given, wrote, wanted))

@@ -1,9 +1,12 @@
--- `watcher::tick` meets its contract: the limit first, then the state's form, and then as a state in form takes the tick. Assumes nothing.
-use mathlib.Core.Path.{refl}
+-- `watcher::tick` meets its contract: the refusals in their order, then the step of the walk over the entries. Assumes nothing.
+use mathlib.Core.Path.{_≡_, refl}
+use mathlib.Core.Bool.{true}
 use native.Mathlib.Omega.{arith}
 use borrow.Author.Needs.{needs}
-use Rattle.watcher.proofs.Judges.{formed-exactly, extent-formed, extent-broken}
-use Rattle.watcher.proofs.Calls.{refused-form, refused-range}
+use Rattle.watcher.specs.Walk.{formed}
+use Rattle.watcher.proofs.Judges.{formed-judged, extent-formed, extent-broken}
+use Rattle.watcher.proofs.Calls.{refused-form, refused-late, refused-range}
+use Rattle.watcher.proofs.Ways.{ticked-nothing, ticked-window}
 use Rattle.watcher.proofs.tick.Statement.{statement}
 use Rattle.watcher.proofs.tick.Tie as tie
 
@@ -13,20 +16,46 @@ returns c = (refused-range _ _ (omega arith), refl)
 extent-requires : tie.Need-extent-requires
 extent-requires c κs = search needs
 
-tick-in-form-requires : tie.Need-tick-in-form-requires
-tick-in-form-requires c κs = formed-exactly _ .0 (extent-formed _ (omega arith))
-
 same-length : tie.Need-same-length
 same-length c = search needs
 
 returns-2 : tie.Need-returns-2
-returns-2 c = search needs
+returns-2 c = (refused-form _ _ (omega arith) (extent-broken _ (omega arith)), refl)
+
+-- the state is in form, as computed
+form : (c : tie.After-slice-known2) → formed (c .before .before .before .before .before .before .args .state .now) ≡ true
+form c = extent-formed _ (omega arith)
+
+slice-read-if3 : tie.Need-slice-read-if3
+slice-read-if3 c = omega (arith, formed-judged _ (form c) .long)
 
 same-length-2 : tie.Need-same-length-2
 same-length-2 c = search needs
 
 returns-3 : tie.Need-returns-3
-returns-3 c = (refused-form _ _ (omega arith) (extent-broken _ (omega arith)), refl)
+returns-3 c = (refused-late _ _ (omega arith) (form (c .before)) (omega arith), refl)
+
+step-requires : tie.Need-step-requires
+step-requires c κs = record { form = form (c .before .before); late = omega arith; range = omega arith }
+
+same-length-3 : tie.Need-same-length-3
+same-length-3 c = search needs
+
+returns-4 : tie.Need-returns-4
+returns-4 c =
+    let s = c .before .before .before in
+    ticked-nothing _ _ _ _ _ (omega arith) (form (s .before .before .before)) (omega arith) (s .step .ensures) (c .if4 .taken)
+
+sub-t12 : tie.Need-sub-t12
+sub-t12 c = search needs
+
+same-length-4 : tie.Need-same-length-4
+same-length-4 c = search needs
+
+returns-5 : tie.Need-returns-5
+returns-5 c =
+    let s = c .before .before .before in
+    ticked-window _ _ _ _ _ (omega arith) (form (s .before .before .before)) (omega arith) (s .step .ensures) (c .if4 .left)
 
 pub tick-spec : {M : Type 1} → statement M
 tick-spec =
@@ -34,8 +63,14 @@ tick-spec =
     (tie.spec
     returns
     extent-requires
-    tick-in-form-requires
     same-length
     returns-2
+    slice-read-if3
     same-length-2
-    returns-3)
+    returns-3
+    step-requires
+    same-length-3
+    returns-4
+    sub-t12
+    same-length-4
+    returns-5)
