@@ -1,13 +1,13 @@
 -- A turn of each loop of the writer, and the file that its parts make. Assumes nothing.
-use Prim.Native.Nat.{ℕ, suc, _+_, _-_, _*_, _≤_, _<_}
-use mathlib.Core.Path.{_≡_, refl, sym, ap, ap₂, _∙_}
+use Prim.Native.Nat.{ℕ, _+_, _-_, _*_, _≤_, _<_}
+use mathlib.Core.Path.{_≡_, refl, sym, ap, _∙_}
 use mathlib.Core.List.{List, [], _∷_, _++_, append-nil, append-assoc}
 use native.Mathlib.Numerals.{add-one}
 use native.Mathlib.Omega.{arith}
-use lib.ListN.{length, getD, take, drop, set, length-append, length-set, length-drop, drop-of-length-le}
-use lib.Seq.{drop-cons, drop-drop, length-take-le, take-all, take-at, drop-at, take-suc-set, append-snoc, sets, sets-eq}
+use lib.ListN.{length, getD, take, drop, set, length-append, length-take, length-drop, drop-of-length-le}
+use lib.Seq.{take-length, drop-cons, drop-drop, length-take-le, take-all, take-at, drop-at, sets, sets-eq}
 use borrow.Author.Tests.{le-leb, lt-leb}
-use borrow.Rule.Slice.PartMut.{putMid, same-len-mid, mid-len}
+use borrow.Rule.Slice.PartMut.{midOf, putMid, same-len-mid, mid-len}
 use Rattle.refusal.specs.declared.Refusal.{Refusal}
 use Rattle.refusal.specs.declared.Refusal.the-variants.{Room}
 use Rattle.body.specs.Bytes.{bytesOf}
@@ -20,31 +20,13 @@ use Rattle.file.specs.Ready.{Few}
 use Rattle.file.specs.Write.{writingOf, Wrote}
 use Rattle.file.proofs.Checks.{parts-sound}
 
--- i of the bytes are copied
-pub record CopiedTo (bytes part : List ℕ) (i : ℕ) : Type 0 where
-  pub upto : i ≤ length bytes
-  pub long : length part ≡ length bytes
-  pub made : take i part ++ drop i bytes ≡ bytes
-
-pub copy-none : (bytes part : List ℕ) → length part ≡ length bytes → CopiedTo bytes part 0
-copy-none bytes part h = record { upto = omega arith; long = h; made = refl }
-
-pub copy-more : {bytes part : List ℕ} {i : ℕ} → CopiedTo bytes part i → i < length bytes → CopiedTo bytes (set part i (getD bytes i 0)) (i + 1)
-copy-more {bytes} {part} {i} k h =
-    let v : ℕ = getD bytes i 0 in
-    record {
-      upto = omega arith;
-      long = length-set part i v ∙ k .long;
-      made =
-          rw (add-one i, take-suc-set part i v (omega (arith, k .long)), append-snoc (take i part) v (drop (suc i) bytes), ← drop-cons bytes i 0 h)
-          (k .made);
-    }
-
-pub copy-all : {bytes part : List ℕ} {i : ℕ} → CopiedTo bytes part i → length bytes ≤ i → part ≡ bytes
-copy-all {bytes} {part} {i} k h =
-    sym (append-nil part)
-    ∙ ap₂ (λ (x y : List ℕ). x ++ y) (sym (take-all i part (omega (arith, k .long)))) (sym (drop-of-length-le bytes h))
-    ∙ k .made
+-- bytes copied over a part that is no longer than they are
+pub copied-over : (bytes l made : List ℕ) (at k : ℕ) → made ≡ take (length bytes) bytes ++ drop (length bytes) (midOf at k l) → k ≤ length bytes
+    → made ≡ bytes
+copied-over bytes l made at k e h =
+    let none : drop (length bytes) (midOf at k l) ≡ [] =
+    drop-of-length-le (midOf at k l) {i = length bytes} (omega (arith, length-take k (drop at l))) in
+    e ∙ rw (take-length bytes, none, append-nil bytes)
 
 -- an entry of the contents, byte by byte
 pub entry-written : (name entry vs : List ℕ) → length name ≡ nameBytes → length vs ≡ 4 → length entry ≡ contentsBytes

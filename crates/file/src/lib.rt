@@ -80,7 +80,7 @@ pub fn write_file(names: &[u8], counts: &[u8], bodies: &[u8], file: &mut [u8]) -
             }
             file[0] = counts.len() as u8;
             writer::write_contents(names, counts, &mut file[1..bodies_at]);
-            writer::copy(bodies, &mut file[bodies_at..needed]);
+            bytes::copy(bodies, &mut file[bodies_at..needed]);
             Writing::Written(needed)
         }
     }

@@ -36,21 +36,9 @@ fn write_entry(name: &[u8], offset: usize, n: u8, entry: &mut [u8])
     requires { ⌜ EntryReady (now name) (now entry) ⌝ }
     ensures { λ _. ⌜ now (entry .exit) ≡ contentOf (now (name .entry)) offset n ⌝ }
 {
-    copy(name, &mut entry[0..NAME_BYTES]);
+    bytes::copy(name, &mut entry[0..NAME_BYTES]);
     entry[8] = (offset % 256) as u8;
     entry[9] = (offset / 256 % 256) as u8;
     entry[10] = n;
     entry[11] = 0;
-}
-
-// Copies bytes to a part that is as long.
-pub(crate) fn copy(bytes: &[u8], part: &mut [u8])
-    requires { ⌜ length (now part) ≡ length (now bytes) ⌝ }
-    ensures { λ _. ⌜ now (part .exit) ≡ now (bytes .entry) ⌝ }
-{
-    let mut i: usize = 0;
-    while i < bytes.len() {
-        part[i] = bytes[i];
-        i += 1;
-    }
 }

@@ -44,6 +44,17 @@ ready-long {s} r = state-long (formed-exactly s .0 (r .form))
 pub few-entries : {s : List ℕ} {t : ℕ} → StepsReady s t → getD s 0 0 ≤ mostEntries
 few-entries {s} r = let f = formed-exactly s .0 (r .form) in omega (arith, count-word f, f .bodied .few)
 
+-- arrays of 32, 33 and 62 words are a stack for any state
+pub large-stack : {s : List ℕ} {t : ℕ} {answers base starts : List ℕ} → StepsReady s t → length answers ≡ 32 → length base ≡ 33
+    → length starts ≡ 62 → getD base 0 0 ≡ 0 → StackFor (getD s 0 0) answers base starts
+large-stack r a b c z = record {
+  deep = omega (arith, few-entries r, a);
+  based = omega (arith, a, b);
+  many = omega (arith, few-entries r, c);
+  most = omega (arith, c);
+  first = z;
+}
+
 pub stepping-start : (t w : ℕ) (s answers base starts : List ℕ) → StepsReady s t
     → StackFor (getD s 0 0) answers base starts → Stepping (length answers) (length starts) t w s s answers base starts (2 + getD s 0 0) 0 0
 unfolding stackBy

@@ -210,7 +210,7 @@ fn cells_needed(body: &[u8]) -> usize
     ensures { λ r. ⌜ (r ≡ cellsNeeded (now (body .entry))) × (r ≤ 7938) ⌝ }
 {
     let n = body.len() / 5;
-    let mut possible = [0usize; 32];
+    let mut possible = [0u8; 32];
     let mut d: usize = 0;
     let mut words: usize = 0;
     let mut i: usize = 0;
@@ -223,12 +223,10 @@ fn cells_needed(body: &[u8]) -> usize
                 d += 1;
             }
             Entry::Pair(op) => {
-                at_least(d, 2);
                 let y = possible[d - 1];
                 let x = possible[d - 2];
-                small(x, y);
-                possible[d - 2] = cell::possible_of(op, x as u8, y as u8);
-                words += cell::cell_words(op, y as u8);
+                possible[d - 2] = cell::possible_of(op, x, y) as u8;
+                words += cell::cell_words(op, y);
                 d -= 1;
             }
             Entry::Within(_) => {}
@@ -237,15 +235,3 @@ fn cells_needed(body: &[u8]) -> usize
     }
     words
 }
-
-// Nothing to run: what is required here is known from here on.
-fn at_least(d: usize, n: usize)
-    requires { ⌜ n ≤ d ⌝ }
-    ensures { λ _. ⌜ n ≤ d ⌝ }
-{}
-
-// The same of a sum.
-fn small(x: usize, y: usize)
-    requires { ⌜ x + y ≤ 62 ⌝ }
-    ensures { λ _. ⌜ x + y ≤ 62 ⌝ }
-{}

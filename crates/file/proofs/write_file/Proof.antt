@@ -1,13 +1,14 @@
 -- `file::write_file` meets its contract: each way out is one of the laws of the promise. Assumes nothing.
-use Prim.Native.Nat.{_+_, _*_, _≤_}
+use Prim.Native.Nat.{_+_, _-_, _*_, _≤_}
 use mathlib.Core.Path.{_≡_, sym, _∙_}
 use native.Mathlib.Omega.{arith}
 use lib.ListN.{length, set, length-set}
 use borrow.Rule.Slice.PartMut.{mid-len}
 use Rattle.file.specs.declared.FileCheck.the-variants.{Sound}
+use Rattle.file.specs.Contents.{bodiesAt}
 use Rattle.file.specs.Check.{partsCheck}
 use Rattle.file.proofs.Checks.{parts-sound}
-use Rattle.file.proofs.Writes.{wrote-refused, wrote-short, wrote-file}
+use Rattle.file.proofs.Writes.{copied-over, wrote-refused, wrote-short, wrote-file}
 use borrow.Author.Needs.{needs}
 use Rattle.file.proofs.write_file.Statement.{statement}
 use Rattle.file.proofs.write_file.Tie as tie
@@ -99,7 +100,10 @@ returns-3 c =
     let o = c .before .before in
     let n = o .before .before .before .before in
     let e = n .before .before in
-    wrote-file _ _ _ _ (checked (e .before)) (n .write-contents .ensures) (o .copy .ensures) (e .if1 .left)
+    let a = e .before .before .before .before .before .before .before .before .args in
+    let at = bodiesAt (length (a .counts .now)) in
+    let copied = copied-over (a .bodies .now) _ _ at (at + length (a .bodies .now) - at) (o .copy .ensures .1) (omega arith) in
+    wrote-file _ _ _ _ (checked (e .before)) (n .write-contents .ensures) copied (e .if1 .left)
 
 pub write-file-spec : {M : Type 1} → statement M
 write-file-spec =

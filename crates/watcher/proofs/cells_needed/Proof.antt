@@ -1,15 +1,15 @@
 -- `watcher::cells_needed` meets its contract: the invariant is `Rooming` with the stack of p in an array, the measure the entries left.
 -- Assumes nothing.
 use mathlib.Core.Path.{_≡_, refl, sym, _∙_}
-use Prim.Native.Nat.{_-_, _≤_}
-use lib.ListN.{length, length-set}
+use Prim.Native.Nat.{_+_, _-_, _≤_}
+use lib.ListN.{length, getD, length-set}
 use native.Mathlib.Omega.{arith}
 use borrow.Author.Needs.{needs}
 use Rattle.rules.specs.Limits.{argumentBytes}
 use Rattle.body.specs.declared.Entry.the-variants.{Letter, Pair}
 use Rattle.body.specs.Entry.{entryAt}
 use Rattle.body.specs.Stack.{stack, stackBy}
-use Rattle.watcher.proofs.Piles.{piled-wrong}
+use Rattle.watcher.proofs.Piles.{piled-wrong, possible-le}
 use Rattle.watcher.proofs.Arrays.{letter-fits, letter-stack, pair-two, pair-stack, pair-small, pair-set}
 use Rattle.watcher.proofs.Rooming.{Rooming, rooming-start, rooming-end, rooming-letter, rooming-within, rooming-pair}
 use Rattle.watcher.proofs.cells_needed.Statement.{statement}
@@ -44,9 +44,6 @@ add-i c = omega arith
 enum-told : tie.Need-enum-told Inv-loop μ-loop
 enum-told c = search needs
 
-mul-possible : tie.Need-mul-possible Inv-loop μ-loop
-mul-possible c = omega arith
-
 array-write-possible : tie.Need-array-write-possible Inv-loop μ-loop
 array-write-possible c =
     let l = c .before .before .before .before .loop in
@@ -72,62 +69,56 @@ loop-again c =
 enum-known-entry : tie.Need-enum-known-entry Inv-loop μ-loop
 enum-known-entry c = search needs
 
-at-least-requires : tie.Need-at-least-requires Inv-loop μ-loop
-at-least-requires c κs =
+-- an operator finds its operands on the stack, and their p are small
+two : (c : tie.After-known-told Inv-loop μ-loop) → 2 ≤ c .before .before .before .before .before .loop .d
+two c =
     let l = c .before .before .before .before .before .loop in
     pair-two (l .possible) (l .d) (l .inv .2) (l .inv .3 .piled) (omega arith) (l .inv .3 .most) _ (pair-entry c)
 
-sub-y : tie.Need-sub-y Inv-loop μ-loop
-sub-y c = omega arith
+small : (c : tie.After-known-told Inv-loop μ-loop)
+    → let l = c .before .before .before .before .before .loop in
+    getD (l .possible) (l .d - 2) 0 + getD (l .possible) (l .d - 1) 0 ≤ 62
+small c =
+    let l = c .before .before .before .before .before .loop in
+    pair-small (l .possible) (l .d) (l .inv .2) (l .inv .3 .piled) (omega arith) (l .inv .3 .most) _ (pair-entry c)
 
-mul-y : tie.Need-mul-y Inv-loop μ-loop
-mul-y c = omega arith
+sub-y : tie.Need-sub-y Inv-loop μ-loop
+sub-y c = omega (arith, two c)
 
 array-read-y : tie.Need-array-read-y Inv-loop μ-loop
-array-read-y c = omega arith
+array-read-y c = omega (arith, two c)
 
 sub-x : tie.Need-sub-x Inv-loop μ-loop
-sub-x c = omega arith
-
-mul-x : tie.Need-mul-x Inv-loop μ-loop
-mul-x c = omega arith
+sub-x c = omega (arith, two c)
 
 array-read-x : tie.Need-array-read-x Inv-loop μ-loop
-array-read-x c = omega arith
-
-small-requires : tie.Need-small-requires Inv-loop μ-loop
-small-requires c κs =
-    let k = c .before in
-    let l = k .before .before .before .before .before .loop in
-    pair-small (l .possible) (l .d) (l .inv .2) (l .inv .3 .piled) (omega arith) (l .inv .3 .most) _ (pair-entry k)
-
-cast-possible-of : tie.Need-cast-possible-of Inv-loop μ-loop
-cast-possible-of c = omega arith
-
-cast-possible-of-2 : tie.Need-cast-possible-of-2 Inv-loop μ-loop
-cast-possible-of-2 c = omega arith
+array-read-x c = omega (arith, two c)
 
 possible-of-requires : tie.Need-possible-of-requires Inv-loop μ-loop
 possible-of-requires c κs = search needs
 
-sub-possible : tie.Need-sub-possible Inv-loop μ-loop
-sub-possible c = omega arith
+cast-possible : tie.Need-cast-possible Inv-loop μ-loop
+cast-possible c =
+    let l = c .before .before .before .before .before .before .loop in
+    omega (
+      arith,
+      small (c .before),
+      c .possible-of .ensures,
+      possible-le (c .before .before .entry .given .0 .0) (getD (l .possible) (l .d - 2) 0) (getD (l .possible) (l .d - 1) 0),
+    )
 
-mul-possible-2 : tie.Need-mul-possible-2 Inv-loop μ-loop
-mul-possible-2 c = omega arith
+sub-possible : tie.Need-sub-possible Inv-loop μ-loop
+sub-possible c = omega (arith, two (c .before))
 
 array-write-possible-2 : tie.Need-array-write-possible-2 Inv-loop μ-loop
-array-write-possible-2 c = omega arith
-
-cast-cell-words : tie.Need-cast-cell-words Inv-loop μ-loop
-cast-cell-words c = omega arith
+array-write-possible-2 c = omega (arith, two (c .before))
 
 cell-words-requires : tie.Need-cell-words-requires Inv-loop μ-loop
 cell-words-requires c κs = search needs
 
 add-words : tie.Need-add-words Inv-loop μ-loop
 add-words c =
-    let k = c .before .before .before .before in
+    let k = c .before .before in
     let l = k .before .before .before .before .before .loop in
     let x = l .inv .3 in
     let q = pair-entry k in
@@ -135,14 +126,14 @@ add-words c =
     omega (arith, rooming-pair (rw s at x) (omega arith) _ q .small, x .most, c .cell-words .ensures)
 
 sub-d : tie.Need-sub-d Inv-loop μ-loop
-sub-d c = omega arith
+sub-d c = omega (arith, two (c .before .before))
 
 loop-less-2 : tie.Need-loop-less-2 Inv-loop μ-loop
 loop-less-2 c = omega arith
 
 loop-again-2 : tie.Need-loop-again-2 Inv-loop μ-loop
 loop-again-2 c =
-    let k = c .before .before .before .before in
+    let k = c .before .before in
     let l = k .before .before .before .before .before .loop in
     let x = l .inv .3 in
     let q = pair-entry k in
@@ -191,27 +182,19 @@ cells-needed-spec =
     entry-at-requires
     add-i
     enum-told
-    mul-possible
     array-write-possible
     add-d
     loop-less
     loop-again
     enum-known-entry
-    at-least-requires
     sub-y
-    mul-y
     array-read-y
     sub-x
-    mul-x
     array-read-x
-    small-requires
-    cast-possible-of
-    cast-possible-of-2
     possible-of-requires
+    cast-possible
     sub-possible
-    mul-possible-2
     array-write-possible-2
-    cast-cell-words
     cell-words-requires
     add-words
     sub-d

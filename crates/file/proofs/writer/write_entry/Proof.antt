@@ -5,7 +5,7 @@ use mathlib.Core.List.{[], _∷_}
 use native.Mathlib.Omega.{arith}
 use lib.ListN.{length-set}
 use Rattle.body.specs.Bytes.{bytesOf}
-use Rattle.file.proofs.Writes.{entry-written}
+use Rattle.file.proofs.Writes.{copied-over, entry-written}
 use borrow.Author.Needs.{needs}
 use Rattle.file.proofs.writer.write_entry.Statement.{statement}
 use Rattle.file.proofs.writer.write_entry.Tie as tie
@@ -49,7 +49,8 @@ returns c =
     let p = c .before .before in
     let s = p .before .before .before .before in
     let a = s .args in
-    rw (p .copy .ensures)
+    let copied = copied-over (a .name .now) (a .entry .now) _ 0 8 (p .copy .ensures .1) (omega (arith, s .pre .named)) in
+    rw copied
     (entry-written (a .name .now) (a .entry .now) (a .offset % 256 ∷ a .offset / 256 % 256 ∷ a .n ∷ 0 ∷ []) (s .pre .named) refl (s .pre .long))
 
 pub write-entry-spec : {M : Type 1} → statement M

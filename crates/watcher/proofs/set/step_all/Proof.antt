@@ -1,10 +1,9 @@
 -- `watcher::set::step_all` meets its contract: the invariant is `SetStepping` with a stack of the right size, the measure the states left. Assumes nothing.
 use Prim.Native.Nat.{_-_}
 use mathlib.Core.Path.{_≡_, refl, _∙_}
-use native.Mathlib.Omega.{arith}
 use lib.ListN.{length, getD}
 use borrow.Author.Needs.{needs}
-use Rattle.watcher.proofs.Stepping.{few-entries}
+use Rattle.watcher.proofs.Stepping.{large-stack}
 use Rattle.watcher.proofs.SetSteps.{SetStepping, set-stepping-start, set-stepping-end, set-stepping-ends, set-stepping-within}
 use Rattle.watcher.proofs.SetSteps.{set-stepping-ready, set-stepping-more}
 use Rattle.watcher.proofs.set.step_all.Statement.{statement}
@@ -70,10 +69,7 @@ step-over-requires c κs =
     let j = c .before .before .before .before .before .before in
     let i = j .before .loop .inv in
     let ready = set-stepping-ready (j .before .before .before .before .before .pre) (i .0) (j .loop-test .taken) in
-    let few = few-entries ready in (
-      ready,
-      record { deep = omega (arith, few, i .1); based = omega (arith, i .1, i .2); many = omega (arith, few, i .3); most = omega (arith, i .3); first = i .4 },
-    )
+    (ready, large-stack ready (i .1) (i .2) (i .3) (i .4))
 
 mul-answers : tie.Need-mul-answers Inv-loop μ-loop
 mul-answers c = search needs

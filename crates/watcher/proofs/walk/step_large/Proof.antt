@@ -1,8 +1,7 @@
 -- `watcher::walk::step_large` meets its contract: its arrays are enough for up to 63 entries. Assumes nothing.
 use mathlib.Core.Path.{refl}
-use native.Mathlib.Omega.{arith}
 use borrow.Author.Needs.{needs}
-use Rattle.watcher.proofs.Stepping.{few-entries}
+use Rattle.watcher.proofs.Stepping.{large-stack}
 use Rattle.watcher.proofs.walk.step_large.Statement.{statement}
 use Rattle.watcher.proofs.walk.step_large.Tie as tie
 
@@ -18,7 +17,7 @@ slice-aggregate-step-over-3 c = search needs
 step-over-requires : tie.Need-step-over-requires
 step-over-requires c κs =
     let z = c .before .before .before .before .before in
-    (z .pre, record { deep = omega (arith, few-entries (z .pre)); based = refl; many = omega (arith, few-entries (z .pre)); most = omega arith; first = refl })
+    (z .pre, large-stack (z .pre) refl refl refl refl)
 
 same-length : tie.Need-same-length
 same-length c = search needs

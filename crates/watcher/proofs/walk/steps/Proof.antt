@@ -1,10 +1,9 @@
 -- `watcher::walk::steps` meets its contract: the invariant is `Feeds` with a stack of the right size, the measure the ticks left. Assumes nothing.
 use Prim.Native.Nat.{_-_}
 use mathlib.Core.Path.{_≡_, refl, _∙_}
-use native.Mathlib.Omega.{arith}
 use lib.ListN.{length, getD}
 use borrow.Author.Needs.{needs}
-use Rattle.watcher.proofs.Stepping.{few-entries}
+use Rattle.watcher.proofs.Stepping.{large-stack}
 use Rattle.watcher.proofs.Feeds.{Feeds, feeds-start, feeds-end, feeds-ready, feeds-more}
 use Rattle.watcher.proofs.walk.steps.Statement.{statement}
 use Rattle.watcher.proofs.walk.steps.Tie as tie
@@ -46,10 +45,7 @@ step-over-requires c κs =
     let i = j .before .loop .inv in
     let r = j .before .before .before .before .before .before .pre in
     let ready = feeds-ready r (i .0) (j .loop-test .taken) in
-    let few = few-entries ready in (
-      ready,
-      record { deep = omega (arith, few, i .1); based = omega (arith, i .1, i .2); many = omega (arith, few, i .3); most = omega (arith, i .3); first = i .4 },
-    )
+    (ready, large-stack ready (i .1) (i .2) (i .3) (i .4))
 
 mul-answers : tie.Need-mul-answers Inv-loop μ-loop
 mul-answers c = search needs
