@@ -1,12 +1,12 @@
 -- A piece behind the bytes held: how much of it is copied, and the line that two pieces make. Assumes nothing.
-use Prim.Native.Nat.{ℕ, _+_, _-_, _<_, _≤_, min}
+use Prim.Native.Nat.{ℕ, _+_, _-_, _≤_, min}
 use mathlib.Core.Path.{_≡_, sym, ap, _∙_}
-use mathlib.Core.List.{List, _++_}
+use mathlib.Core.List.{List, [], _++_, append-assoc, append-nil}
 use native.Mathlib.Decide.{decLe}
-use native.Mathlib.Numerals.{add-one}
 use native.Mathlib.Omega.{arith}
-use lib.ListN.{length, getD, take, drop, set, length-take, length-append, length-set}
-use lib.Seq.{paste, paste-suc, length-take-le, take-all, take-at, take-append-add}
+use lib.ListN.{length, take, drop, length-take, length-drop, length-append, drop-of-length-le}
+use lib.Seq.{paste, length-take-le, take-all, take-length, take-at, drop-drop, take-append-add}
+use borrow.Rule.Slice.PartMut.{midOf, putMid}
 use Rattle.watching.specs.Chunk.{mostHeld}
 use Rattle.watching.specs.Going.{Appended}
 
@@ -18,14 +18,14 @@ take-least l k n e = go (decLe k (length l))
     go (yes h) = let q : k ≡ n = omega arith in rw q
     go (no h) = take-all k l (omega arith) ∙ sym (take-all n l (omega arith))
 
--- a byte more is copied
-pub copied-more : (p piece q : List ℕ) (from i n : ℕ) → q ≡ paste p from piece i → length q ≡ length p → from + i < length p → i < length piece → i < n
-    → (set q (from + i) (getD piece i 0) ≡ paste p from piece (i + 1)) × (length (set q (from + i) (getD piece i 0)) ≡ length p) × (i + 1 ≤ n)
-copied-more p piece q from i n e l h k m = (
-  rw (e, add-one i) (paste-suc p from piece i 0 h k),
-  length-set q (from + i) (getD piece i 0) ∙ l,
-  omega arith,
-)
+-- a part lent to the end of a list is the rest of it, and it comes back as such
+pub lent-rest : (at : ℕ) (d : List ℕ) → midOf at (length d - at) d ≡ drop at d
+lent-rest at d = take-all (length d - at) (drop at d) (omega (arith, length-drop at d))
+
+pub rest-back : (at : ℕ) (d e : List ℕ) → putMid at (length d - at) d e ≡ take at d ++ e
+rest-back at d e =
+    let none : drop (length d - at) (drop at d) ≡ [] = drop-of-length-le (drop at d) {i = length d - at} (omega (arith, length-drop at d)) in
+    rw (none, append-nil e)
 
 -- a copy of so many bytes as fit
 pub appended : (p piece p′ : List ℕ) (from n : ℕ) → from ≤ mostHeld → mostHeld ≤ length p → n ≡ min (length piece) (mostHeld - from)
@@ -40,6 +40,17 @@ appended p piece p′ from n f m e q =
       counts = rw cut (omega (arith, length-append (take from p) (take n piece), length-take-le n piece (omega arith)));
       holds = q ∙ ap (λ (l : List ℕ). l ++ drop (from + n) p) (sym cut);
     }
+
+-- as the kit copies a part of the piece to the rest of the bytes
+pub copy-appended : (p piece e : List ℕ) (from n : ℕ) → from ≤ mostHeld → mostHeld ≤ length p → n ≡ min (length piece) (mostHeld - from)
+    → e ≡ take (length (take (n - 0) piece)) (take (n - 0) piece) ++ drop (length (take (n - 0) piece)) (midOf from (length p - from) p)
+    → Appended p from piece (putMid from (length p - from) p e) (from + n)
+copy-appended p piece e from n f m h q =
+    let all : n - 0 ≡ n = omega arith in
+    let long : length (take n piece) ≡ n = length-take-le n piece (omega arith) in
+    let copied = rw (all, take-length (take n piece), long, lent-rest from p, drop-drop n from p) at q in
+    appended p piece (putMid from (length p - from) p e) from n f m h
+    (rest-back from p e ∙ ap (λ (l : List ℕ). take from p ++ l) copied ∙ sym (append-assoc (take from p) (take n piece) (drop (from + n) p)))
 
 module _ {p piece p′ : List ℕ} {from n : ℕ} (a : Appended p from piece p′ n) where
   -- what is held after it

@@ -1,10 +1,10 @@
 -- Lines of an input, one after the other: a line goes, and what goes goes on. Assumes nothing.
 use Prim.Native.Nat.{ℕ, suc, _+_, _-_, _≤_, min}
 use mathlib.Core.Path.{_≡_, refl, sym, ap, _∙_}
-use mathlib.Core.List.{List, [], _++_, append-assoc, append-nil}
+use mathlib.Core.List.{List, [], _++_, append-assoc}
 use native.Mathlib.Omega.{arith}
-use lib.ListN.{length, take, drop, length-take, length-drop, length-append, take-append-drop, drop-of-length-le}
-use lib.Seq.{length-take-le, take-all, take-at, drop-at, drop-drop, take-take, drop-append-le}
+use lib.ListN.{length, take, drop, length-take, length-drop, length-append, take-append-drop}
+use lib.Seq.{length-take-le, take-at, drop-at, drop-drop, take-take, drop-append-le}
 use borrow.Rule.Slice.PartMut.{midOf, putMid}
 use Rattle.line.specs.Lines.{mostWritten}
 use Rattle.line.specs.Answer.{IsWritten}
@@ -16,18 +16,9 @@ use Rattle.watching.specs.Chunk.{mostHeld}
 use Rattle.watching.specs.Going.{lineLength, LineEnds, Appended, WritesOn, Goes, GoesFrom, GoesNext, JoinReady}
 use Rattle.watching.proofs.Takings.{part-first}
 use Rattle.watching.proofs.Biting.{line-leads}
-use Rattle.watching.proofs.Appending.{take-least, joined-line}
+use Rattle.watching.proofs.Appending.{take-least, lent-rest, rest-back, joined-line}
 
 -- ---- what is written after what is written
-
--- a part lent to the end of a list is the rest of it, and it comes back as such
-pub lent-rest : (at : ℕ) (d : List ℕ) → midOf at (length d - at) d ≡ drop at d
-lent-rest at d = take-all (length d - at) (drop at d) (omega (arith, length-drop at d))
-
-rest-back : (at : ℕ) (d e : List ℕ) → putMid at (length d - at) d e ≡ take at d ++ e
-rest-back at d e =
-    let none : drop (length d - at) (drop at d) ≡ [] = drop-of-length-le (drop at d) {i = length d - at} (omega (arith, length-drop at d)) in
-    rw (none, append-nil e)
 
 -- bytes written first in a list
 pub writes-first : {bytes d d′ : List ℕ} {n : ℕ} → IsWritten bytes d d′ n → WritesOn bytes d d′ 0 n

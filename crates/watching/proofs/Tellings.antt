@@ -21,7 +21,8 @@ use Rattle.watching.specs.Answer.{Windowed, added, full, IsWindowed}
 use Rattle.watching.specs.Going.{WritesOn}
 use Rattle.watching.specs.Batch.{Told, nothing, window, Tells, none, more, Holds, TellReady, IsTold, TellAllReady, IsAllTold}
 use Rattle.watching.proofs.Writings.{nothing-written}
-use Rattle.watching.proofs.Goings.{lent-rest, writes-on, writes-whole, writes-length, writes-then}
+use Rattle.watching.proofs.Appending.{lent-rest}
+use Rattle.watching.proofs.Goings.{writes-on, writes-whole, writes-length, writes-then}
 
 -- ---- one answer
 

@@ -165,11 +165,7 @@ fn append(part: &mut [u8], from: usize, piece: &[u8]) -> usize
     ensures { λ r. ⌜ Appended (now (part .entry)) from (now (piece .entry)) (now (part .exit)) r ⌝ }
 {
     let n = least(piece.len(), crate::MOST_HELD - from);
-    let mut i: usize = 0;
-    while i < n {
-        part[from + i] = piece[i];
-        i += 1;
-    }
+    bytes::copy(&piece[0..n], &mut part[from..]);
     from + n
 }
 

@@ -3,7 +3,8 @@ use mathlib.Core.Path.{subst}
 use native.Mathlib.Omega.{arith}
 use lib.ListN.{length-take, length-drop}
 use Rattle.watcher.specs.Feed.{FeedAnswers}
-use Rattle.watching.proofs.Goings.{lent-rest, writes-on, goes-none}
+use Rattle.watching.proofs.Appending.{lent-rest}
+use Rattle.watching.proofs.Goings.{writes-on, goes-none}
 use Rattle.watching.proofs.Batches.{fed-ready, batch-goes}
 use borrow.Author.Needs.{needs}
 use Rattle.watching.proofs.batch.feed_batch.Statement.{statement}

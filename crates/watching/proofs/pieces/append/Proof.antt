@@ -1,81 +1,62 @@
--- `watching::pieces::append` meets its contract. The invariant: the first i bytes are copied. Assumes nothing.
-use Prim.Native.Nat.{_-_, _≤_}
-use mathlib.Core.Path.{_≡_}
-use native.Mathlib.Omega.{arith}
-use lib.ListN.{length}
-use lib.Seq.{paste, paste-zero}
+-- `watching::pieces::append` meets its contract: the kit copies as much as is held. Assumes nothing.
+use Rattle.watching.proofs.Appending.{copy-appended}
 use borrow.Author.Needs.{needs}
-use Rattle.watching.proofs.Appending.{copied-more, appended}
 use Rattle.watching.proofs.pieces.append.Statement.{statement}
 use Rattle.watching.proofs.pieces.append.Tie as tie
 
-abbrev Inv-loop : tie.InvT-loop
-Inv-loop part₀ from piece n i₀ part i = (part ≡ paste part₀ from piece i) × (length part ≡ length part₀) × (i ≤ n)
-
-abbrev μ-loop : tie.MeasureT-loop
-μ-loop part₀ from piece n i₀ part i = n - i
-
-sub-least : tie.Need-sub-least Inv-loop μ-loop
+sub-least : tie.Need-sub-least
 sub-least c = search needs
 
-least-requires : tie.Need-least-requires Inv-loop μ-loop
+least-requires : tie.Need-least-requires
 least-requires c κs = search needs
 
-loop-holds : tie.Need-loop-holds Inv-loop μ-loop
-loop-holds c =
-    let a = c .before .before .before .args in
-    (paste-zero (a .part .now) (a .from) (a .piece .now), search needs, search needs)
+sub-copy : tie.Need-sub-copy
+sub-copy c = search needs
 
-shared-slice-read-part : tie.Need-shared-slice-read-part Inv-loop μ-loop
-shared-slice-read-part c = omega arith
+part-copy-start : tie.Need-part-copy-start
+part-copy-start c = search needs
 
-add-part : tie.Need-add-part Inv-loop μ-loop
-add-part c = omega arith
+part-copy-end : tie.Need-part-copy-end
+part-copy-end c = search needs
 
-slice-write-part : tie.Need-slice-write-part Inv-loop μ-loop
-slice-write-part c = omega arith
+sub-copy-2 : tie.Need-sub-copy-2
+sub-copy-2 c = search needs
 
-add-i : tie.Need-add-i Inv-loop μ-loop
-add-i c = omega arith
+part-copy-start-2 : tie.Need-part-copy-start-2
+part-copy-start-2 c = search needs
 
-loop-less : tie.Need-loop-less Inv-loop μ-loop
-loop-less c = omega arith
+part-copy-end-2 : tie.Need-part-copy-end-2
+part-copy-end-2 c = search needs
 
-loop-again : tie.Need-loop-again Inv-loop μ-loop
-loop-again c =
-    let l = c .before .before in
-    let a = l .before .before .before .before .args in
-    copied-more (a .part .now) (a .piece .now) (l .loop .part) (a .from) (l .loop .i) _ (l .loop .inv .0) (l .loop .inv .1) (omega arith) (omega arith)
-    (omega arith)
+copy-requires : tie.Need-copy-requires
+copy-requires c κs = search needs
 
-add-result : tie.Need-add-result Inv-loop μ-loop
-add-result c = omega arith
+add-result : tie.Need-add-result
+add-result c = search needs
 
-same-length : tie.Need-same-length Inv-loop μ-loop
+same-length : tie.Need-same-length
 same-length c = search needs
 
-returns : tie.Need-returns Inv-loop μ-loop
+returns : tie.Need-returns
 returns c =
-    let l = c .before in
-    let a = l .before .before .before .before .args in
-    let e : l .loop .i ≡ l .before .least .result = omega arith in
-    appended (a .part .now) (a .piece .now) _ (a .from) _ (omega arith) (omega arith) (l .before .least .ensures) (rw e at (l .loop .inv .0))
+    let k = c .before .before in
+    let l = k .before .before .before in
+    let s = l .before .before .before in
+    copy-appended (s .args .part .now) (s .args .piece .now) _ (s .args .from) _ (s .pre .0) (s .pre .1) (l .least .ensures) (k .copy .ensures .1)
 
 pub append-spec : {M : Type 1} → statement M
 append-spec =
     tie.close
     (tie.spec
-    Inv-loop
-    μ-loop
     sub-least
     least-requires
-    loop-holds
-    shared-slice-read-part
-    add-part
-    slice-write-part
-    add-i
-    loop-less
-    loop-again
+    sub-copy
+    part-copy-start
+    part-copy-end
+    sub-copy-2
+    part-copy-start-2
+    part-copy-end-2
+    copy-requires
     add-result
     same-length
     returns)

@@ -1,6 +1,6 @@
 -- `watching::pieces::hold_rest` meets its contract: the part lent is the rest of the chunk. Assumes nothing.
 use mathlib.Core.Path.{refl}
-use Rattle.watching.proofs.Goings.{lent-rest}
+use Rattle.watching.proofs.Appending.{lent-rest}
 use borrow.Author.Needs.{needs}
 use Rattle.watching.proofs.pieces.hold_rest.Statement.{statement}
 use Rattle.watching.proofs.pieces.hold_rest.Tie as tie
