@@ -1,9 +1,10 @@
 -- `file::lookup` meets its contract: what was found lies in its file, so the part that is lent is the body. Assumes nothing.
-use mathlib.Core.Path.{sym, ap, _∙_}
+use mathlib.Core.Path.{_≡_, sym, ap, _∙_}
 use native.Mathlib.Omega.{arith}
 use Rattle.file.specs.declared.Whose.{Whose}
 use Rattle.file.specs.declared.Whose.the-variants.{Site, Fleet}
 use Rattle.file.specs.declared.Finding.the-variants.{Found}
+use Rattle.file.specs.Lookup.{findingOf}
 use Rattle.file.proofs.Found.{finding-found, part-found, part-broken, part-refused}
 use borrow.Author.Needs.{needs}
 use Rattle.file.proofs.lookup.Statement.{statement}
@@ -18,19 +19,16 @@ enum-known-whose c = search needs
 enum-told : tie.Need-enum-told
 enum-told c = search needs
 
+-- what was found, by the file that has it
+found : (w : tie.After-whose) (x : Whose) → w .whose .given .0 .0 ≡ x
+    → let a = w .before .before .before .before .before .before .args in
+    findingOf (a .site .now) (a .fleet .now) (a .name .now) ≡ Found x (w .whose .given .0 .1 .0) (w .whose .given .0 .1 .1 .0)
+found w x e =
+    sym (w .before .before .looked-up .ensures) ∙ w .whose .given .1
+    ∙ ap (λ (y : Whose). Found y (w .whose .given .0 .1 .0) (w .whose .given .0 .1 .1 .0)) e
+
 add-result : tie.Need-add-result
-add-result c =
-    let t = c in
-    let w = t .before .before .before in
-    let l = w .before .before in
-    let a = l .before .before .before .before .args in
-    let from = w .whose .given .0 .1 .0 in
-    let long = w .whose .given .0 .1 .1 .0 in
-    omega (
-      arith,
-      finding-found (a .site .now) (a .fleet .now) (a .name .now) Site from long
-          (sym (l .looked-up .ensures) ∙ w .whose .given .1 ∙ ap (λ (x : Whose). Found x from long) (t .enum-told .given .1)) .within,
-    )
+add-result c = omega (arith, finding-found _ _ _ _ _ _ (found (c .before .before .before) Site (c .enum-told .given .1)) .within)
 
 sub-result : tie.Need-sub-result
 sub-result c = search needs
@@ -39,32 +37,13 @@ part-result-start : tie.Need-part-result-start
 part-result-start c = search needs
 
 part-result-end : tie.Need-part-result-end
-part-result-end c =
-    let t = c in
-    let w = t .before .before .before in
-    let l = w .before .before in
-    let a = l .before .before .before .before .args in
-    let from = w .whose .given .0 .1 .0 in
-    let long = w .whose .given .0 .1 .1 .0 in
-    finding-found (a .site .now) (a .fleet .now) (a .name .now) Site from long
-    (sym (l .looked-up .ensures) ∙ w .whose .given .1 ∙ ap (λ (x : Whose). Found x from long) (t .enum-told .given .1)) .within
+part-result-end c = finding-found _ _ _ _ _ _ (found (c .before .before .before) Site (c .enum-told .given .1)) .within
 
 enum-told-2 : tie.Need-enum-told-2
 enum-told-2 c = search needs
 
 add-result-2 : tie.Need-add-result-2
-add-result-2 c =
-    let t = c in
-    let w = t .before .before .before in
-    let l = w .before .before in
-    let a = l .before .before .before .before .args in
-    let from = w .whose .given .0 .1 .0 in
-    let long = w .whose .given .0 .1 .1 .0 in
-    omega (
-      arith,
-      finding-found (a .site .now) (a .fleet .now) (a .name .now) Fleet from long
-          (sym (l .looked-up .ensures) ∙ w .whose .given .1 ∙ ap (λ (x : Whose). Found x from long) (t .enum-told2 .given .1)) .within,
-    )
+add-result-2 c = omega (arith, finding-found _ _ _ _ _ _ (found (c .before .before .before) Fleet (c .enum-told2 .given .1)) .within)
 
 sub-result-2 : tie.Need-sub-result-2
 sub-result-2 c = search needs
@@ -73,15 +52,7 @@ part-result-start-2 : tie.Need-part-result-start-2
 part-result-start-2 c = search needs
 
 part-result-end-2 : tie.Need-part-result-end-2
-part-result-end-2 c =
-    let t = c in
-    let w = t .before .before .before in
-    let l = w .before .before in
-    let a = l .before .before .before .before .args in
-    let from = w .whose .given .0 .1 .0 in
-    let long = w .whose .given .0 .1 .1 .0 in
-    finding-found (a .site .now) (a .fleet .now) (a .name .now) Fleet from long
-    (sym (l .looked-up .ensures) ∙ w .whose .given .1 ∙ ap (λ (x : Whose). Found x from long) (t .enum-told2 .given .1)) .within
+part-result-end-2 c = finding-found _ _ _ _ _ _ (found (c .before .before .before) Fleet (c .enum-told2 .given .1)) .within
 
 enum-told-3 : tie.Need-enum-told-3
 enum-told-3 c = search needs
@@ -108,26 +79,10 @@ part-result-end-4 : tie.Need-part-result-end-4
 part-result-end-4 c = search needs
 
 returns : tie.Need-returns
-returns c =
-    let t = c .before in
-    let w = t .before .before .before in
-    let l = w .before .before in
-    let a = l .before .before .before .before .args in
-    let from = w .whose .given .0 .1 .0 in
-    let long = w .whose .given .0 .1 .1 .0 in
-    part-found (a .site .now) (a .fleet .now) (a .name .now) Site from long
-    (sym (l .looked-up .ensures) ∙ w .whose .given .1 ∙ ap (λ (x : Whose). Found x from long) (t .enum-told .given .1))
+returns c = let t = c .before in part-found _ _ _ _ _ _ (found (t .before .before .before) Site (t .enum-told .given .1))
 
 returns-2 : tie.Need-returns-2
-returns-2 c =
-    let t = c .before in
-    let w = t .before .before .before in
-    let l = w .before .before in
-    let a = l .before .before .before .before .args in
-    let from = w .whose .given .0 .1 .0 in
-    let long = w .whose .given .0 .1 .1 .0 in
-    part-found (a .site .now) (a .fleet .now) (a .name .now) Fleet from long
-    (sym (l .looked-up .ensures) ∙ w .whose .given .1 ∙ ap (λ (x : Whose). Found x from long) (t .enum-told2 .given .1))
+returns-2 c = let t = c .before in part-found _ _ _ _ _ _ (found (t .before .before .before) Fleet (t .enum-told2 .given .1))
 
 returns-3 : tie.Need-returns-3
 returns-3 c =
