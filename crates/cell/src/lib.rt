@@ -502,7 +502,7 @@ fn has_room(length: usize, at: usize, n: usize) -> bool
     n <= length - at
 }
 
-// The same where there is room.
+// Puts the starts of a chain where there is room for them.
 fn put_chain(cell: &[u64], starts: &mut [u64], at: usize) -> usize
     requires { ⌜ Paired (length (now cell)) × (at + length (now cell) / 2 ≤ length (now starts)) ⌝ }
     ensures { λ r. ⌜ Pushed Chain (now (cell .entry)) (now (starts .entry)) at (now (starts .exit)) r ⌝ }
