@@ -54,9 +54,6 @@ module _ (old : List ℕ) (long : 2 + getD old 0 0 ≤ length old) where
         ∙ ap (λ (l : List ℕ). getD l j 0) held-front
         ∙ getD-take (2 + getD old 0 0) old j 0 k
 
-    pub held-count : getD s 0 0 ≡ getD old 0 0
-    held-count = held-word 0 (omega arith)
-
     pub held-entry : (i : ℕ) → i < getD old 0 0 → entryIn s i ≡ entryIn old i
     unfolding entryIn
     held-entry i k = rw (held-word (i + 2) (omega arith))

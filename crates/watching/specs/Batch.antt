@@ -74,7 +74,7 @@ pub data Tells : Run → List ℕ → List ℕ → Run → List ℕ → Type 0 w
   more : {run run₁ run′ : Run} {ts answers bytes rest : List ℕ} (t a : ℕ) → Told run t a run₁ bytes → Tells run₁ ts answers run′ rest
       → Tells run (t ∷ ts) (a ∷ answers) run′ (bytes ++ rest)
 
--- an answer a is 0, or start + 1 of a window that ends at the tick t
+-- an answer a at a tick t in range is 0, or start + 1 of a start no later than t
 pub record Fair (t a : ℕ) : Type 0 where
   pub range : t < ticks
   pub within : a ≤ t + 1
