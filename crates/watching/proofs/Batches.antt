@@ -30,7 +30,7 @@ use Rattle.watching.proofs.Biting.{line-leads}
 use Rattle.watching.proofs.Goings.{writes-on}
 
 -- an answer is 0, or start + 1 of a window that ends at the tick
-ticked-fair : {s s′ : List ℕ} {t w a : ℕ} → IsTicked s s′ t w a → Fair t a
+pub ticked-fair : {s s′ : List ℕ} {t w a : ℕ} → IsTicked s s′ t w a → Fair t a
 ticked-fair {s} {s′} {t} {w} {a} i = record {
   range = i .range;
   within = omega (arith, i .answered, answer-le t w (i .form .next) (i .late) (i .form .pattern) (i .form .memory) (i .form .form));

@@ -50,7 +50,7 @@ module _ {run : Run} {held : ℕ} {chunk p p′ s s′ d d′ : List ℕ} {r : C
       let e : length (q .0) ≡ r .used = omega (arith, x .used, length-append (q .0) (x .left), ap length (q .1)) in
       ap (drop (r .used)) (q .1) ∙ drop-at (q .0) (x .left) (r .used) e
 
-given-watches : {run run′ : Run} {held held′ : ℕ} {p p′ s s′ input bytes : List ℕ} → Given run held p s input run′ held′ p′ s′ bytes
+pub given-watches : {run run′ : Run} {held held′ : ℕ} {p p′ s s′ input bytes : List ℕ} → Given run held p s input run′ held′ p′ s′ bytes
     → Watches run (heldIn held p) s input run′ (heldIn held′ p′) s′ bytes
 given-watches none = end
 given-watches (more later (l, x) g) =

@@ -35,12 +35,12 @@ record Reaches (run : Run) (l s input : List ℕ) (run′ : Run) (h′ s′ inpu
       → Takes run s (linesFrom l (input ++ later)) last s″ (bytes ++ rest)
 
 -- a byte that ends no line
-lines-byte : (l input : List ℕ) (c : ℕ) → (c ≡ 10 → ⊥) → linesFrom l (c ∷ input) ≡ linesFrom (l ++ (c ∷ [])) input
+pub lines-byte : (l input : List ℕ) (c : ℕ) → (c ≡ 10 → ⊥) → linesFrom l (c ∷ input) ≡ linesFrom (l ++ (c ∷ [])) input
 unfolding linesFrom
 lines-byte l input c n = rw (ne-eqb c 10 n)
 
 -- a line feed
-lines-feed : (l input : List ℕ) → linesFrom l (10 ∷ input) ≡ l ∷ linesFrom [] input
+pub lines-feed : (l input : List ℕ) → linesFrom l (10 ∷ input) ≡ l ∷ linesFrom [] input
 unfolding linesFrom
 lines-feed l input = refl
 
@@ -112,10 +112,10 @@ watches-unmoved (more later b w) u =
 -- ---- an input that is empty
 
 -- nothing has changed, and nothing is written
-data Still (run : Run) (h s : List ℕ) : Run → List ℕ → List ℕ → List ℕ → Type 0 where
+pub data Still (run : Run) (h s : List ℕ) : Run → List ℕ → List ℕ → List ℕ → Type 0 where
   still : Still run h s run h s []
 
-watches-still : {run run′ : Run} {h h′ s s′ input bytes : List ℕ} → Watches run h s input run′ h′ s′ bytes → length input ≡ 0
+pub watches-still : {run run′ : Run} {h h′ s s′ input bytes : List ℕ} → Watches run h s input run′ h′ s′ bytes → length input ≡ 0
     → Still run h s run′ h′ s′ bytes
 watches-still end e = still
 watches-still (more later all w) e = watches-still w e

@@ -15,3 +15,5 @@ pub mod Held
 pub mod InPieces
 pub mod Given
 pub mod UniqueChunk
+pub mod Sounds
+pub mod Begins

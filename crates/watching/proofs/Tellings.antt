@@ -27,7 +27,7 @@ use Rattle.watching.proofs.Goings.{writes-on, writes-whole, writes-leng
 -- ---- one answer
 
 -- a window is added where the tally has room for it
-added-fits : (tally : Tally) (start t : ℕ) → start ≤ t → t < ticks → tally .windows + 1 < 2 ^ 64 → tally .ticks + (t - start + 1) < 2 ^ 64
+pub added-fits : (tally : Tally) (start t : ℕ) → start ≤ t → t < ticks → tally .windows + 1 < 2 ^ 64 → tally .ticks + (t - start + 1) < 2 ^ 64
     → addedTo tally start t ≡ Added (counted tally start t)
 unfolding addedTo
 added-fits tally start t h r w k =

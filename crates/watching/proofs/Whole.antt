@@ -12,6 +12,7 @@ use Rattle.rules.specs.History.{Tick, Rising, nextTick}
 use Rattle.detector.proofs.History.{nextTick-snoc}
 use Rattle.body.specs.Postfix.{encode}
 use Rattle.body.specs.Claim.{BodyOf}
+use Rattle.text.specs.Answer.{IsRead}
 use Rattle.watcher.specs.declared.Ticking.the-variants as Ticks
 use Rattle.watcher.specs.Claim.{Watched, opened, window as windowed, nothing as unmoved}
 use Rattle.watcher.proofs.Agrees.{watched-reached}
@@ -24,7 +25,7 @@ use Rattle.tally.proofs.Sums.{sums}
 use Rattle.line.specs.Lines.{windowLine, tallyLine}
 use Rattle.watching.specs.declared.Run.{Run}
 use Rattle.watching.specs.Runs.{fresh, tallyOf, wentOn, finishLine}
-use Rattle.watching.specs.Answer.{IsBegun, IsStepped}
+use Rattle.watching.specs.Answer.{noBody, IsStepped}
 use Rattle.watching.specs.Answer.Windowed.{added, full}
 use Rattle.watching.specs.Answer.LineTaken.{begun, unbegun, window, nothing, refused, after}
 use Rattle.watching.specs.Whole.{Takes}
@@ -118,17 +119,15 @@ module _ (b : List ℕ) (e : Pattern) (body : BodyOf argumentBytes b e) where
   goes-on x p (more (after z i) k) q = absurd (omega arith)
 
 -- the body that line 1 is read into is that of its text's pattern
-begun-body : {p s s′ : List ℕ} (i : IsBegun p s s′) → BodyOf argumentBytes (take (i .bytes) (i .body)) (i .read .some .tree)
-begun-body i = record {
-  bodied = record { proper = i .read .some .text .proper; few = i .read .few };
-  same =
-      ap (take (i .bytes)) (i .read .written)
-      ∙ take-at (encode argumentBytes (i .read .some .tree)) (drop (i .bytes) _) (i .bytes) (sym (i .read .counts));
+pub read-body : {p body : List ℕ} {bytes : ℕ} (x : IsRead p noBody body bytes) → BodyOf argumentBytes (take bytes body) (x .some .tree)
+read-body {bytes = bytes} x = record {
+  bodied = record { proper = x .some .text .proper; few = x .few };
+  same = ap (take bytes) (x .written) ∙ take-at (encode argumentBytes (x .some .tree)) (drop bytes _) bytes (sym (x .counts));
 }
 
 pub lines-agree : LinesAgree
 lines-agree s s′ p bytes ls run (more (begun z i) k) q =
-    let g = goes-on (take (i .bytes) (i .body)) (i .read .some .tree) (begun-body i) (opened (i .opened)) refl k q in
+    let g = goes-on (take (i .bytes) (i .body)) (i .read .some .tree) (read-body (i .read)) (opened (i .opened)) refl k q in
     let n = sums (tallyOf fresh) (tallyOf run) (g .windows) (g .adds) in
     record {
       pattern = i .read .some .tree;

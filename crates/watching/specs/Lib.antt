@@ -5,3 +5,4 @@ pub mod Chunk
 pub mod Going
 pub mod Batch
 pub mod Claim
+pub mod Sound

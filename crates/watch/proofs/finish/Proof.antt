@@ -1,4 +1,4 @@
--- `watch::finish` writes no more than is lent. Assumes nothing.
+-- `watch::finish` meets its contract: what finishing wrote is handed to the writer, and nothing is refused. Assumes nothing.
 use mathlib.Core.Path.{subst}
 use native.Mathlib.Omega.{arith}
 use Rattle.watching.specs.Chunk.{FinishAnswers}
@@ -17,7 +17,7 @@ write-first-requires c κs =
     let n = c .before .before in
     let f = n .before .before .before .before .before .before in
     let w = subst (FinishAnswers _ _ _ _ _ _ _) (n .n .given .1) (f .finish .ensures) in
-    omega (arith, w .1 .2 .fits, f .finish .kept)
+    (f .before .before .before .before .before .before .before .before .pre .0, omega (arith, w .1 .2 .fits, f .finish .kept))
 
 enum-told : tie.Need-enum-told
 enum-told c = search needs
@@ -29,7 +29,11 @@ same-length-2 : tie.Need-same-length-2
 same-length-2 c = search needs
 
 returns : tie.Need-returns
-returns c = search needs
+returns c =
+    let n = c .before .before .before in
+    let f = n .before .before .before .before .before .before in
+    let w = subst (FinishAnswers _ _ _ _ _ _ _) (n .n .given .1) (f .finish .ensures) in
+    record { answers = rw (c .write-first .ensures) w }
 
 same-length-3 : tie.Need-same-length-3
 same-length-3 c = search needs
@@ -38,7 +42,10 @@ same-length-4 : tie.Need-same-length-4
 same-length-4 c = search needs
 
 returns-2 : tie.Need-returns-2
-returns-2 c = search needs
+returns-2 c =
+    let f = c .before .before .before .before .before .before in
+    let w = subst (FinishAnswers _ _ _ _ _ _ _) (c .enum-told .given .1) (f .finish .ensures) in
+    absurd (omega (arith, w .0, f .before .before .before .before .before .before .before .before .pre .1 .room))
 
 pub finish-spec : {M : Type 1} → statement M
 finish-spec =

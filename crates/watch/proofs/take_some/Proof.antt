@@ -1,8 +1,7 @@
--- `watch::take_some` meets its contract: where a line finds room, a byte at least is used; and nothing is refused. Assumes nothing.
+-- `watch::take_some` meets its contract: what a chunk wrote is handed to the writer, and nothing is refused. Assumes nothing.
 use mathlib.Core.Path.{subst}
 use native.Mathlib.Omega.{arith}
 use Rattle.watching.specs.Chunk.{ChunkAnswers}
-use Rattle.watching.proofs.Chunkings.{chunk-inside, chunk-some}
 use borrow.Author.Needs.{needs}
 use Rattle.watch.proofs.take_some.Statement.{statement}
 use Rattle.watch.proofs.take_some.Tie as tie
@@ -18,7 +17,7 @@ write-first-requires c κs =
     let n = c .before .before .before in
     let t = n .before .before .before .before .before .before .before .before in
     let a = subst (ChunkAnswers _ _ _ _ _ _ _ _ _) (n .c .given .1) (t .take-chunk .ensures) in
-    omega (arith, a .1 .written .fits, t .take-chunk .kept)
+    (t .before .before .before .before .before .before .before .before .before .before .pre .0, omega (arith, a .1 .written .fits, t .take-chunk .kept))
 
 enum-told : tie.Need-enum-told
 enum-told c = search needs
@@ -37,8 +36,7 @@ returns c =
     let n = c .before .before .before .before in
     let t = n .before .before .before .before .before .before .before .before in
     let a = subst (ChunkAnswers _ _ _ _ _ _ _ _ _) (n .c .given .1) (t .take-chunk .ensures) in
-    let s = t .before .before .before .before .before .before .before .before .before in
-    (chunk-some (a .1) (s .pre .0) (s .pre .2), chunk-inside (a .1))
+    rw (c .write-first .ensures) a
 
 same-length-4 : tie.Need-same-length-4
 same-length-4 c = search needs
@@ -53,7 +51,7 @@ returns-2 : tie.Need-returns-2
 returns-2 c =
     let t = c .before .before .before .before .before .before .before .before in
     let a = subst (ChunkAnswers _ _ _ _ _ _ _ _ _) (c .enum-told .given .1) (t .take-chunk .ensures) in
-    absurd (omega (arith, a .0, t .before .before .before .before .before .before .before .before .before .pre .1))
+    absurd (omega (arith, a .0, t .before .before .before .before .before .before .before .before .before .before .pre .1 .held))
 
 pub take-some-spec : {M : Type 1} → statement M
 take-some-spec =
