@@ -9,7 +9,8 @@ use mathlib.Core.Option.{Option, none, some}
 use native.Mathlib.Omega.{arith}
 use lib.ListN.{length}
 use Rattle.rules.specs.Pattern.{Pattern, event, pair, within, size, Proper}
-use Rattle.refusal.specs.declared.Refusal.the-variants.{Size, Body}
+use Rattle.refusal.specs.declared.Refusal.the-variants.{Size}
+use Rattle.refusal.specs.Table.{brokenAt}
 use Rattle.body.specs.declared.Entry.{Entry}
 use Rattle.body.specs.declared.BodyCheck.the-variants.{Sound, Refused}
 use Rattle.body.specs.Bytes.{Bytes}
@@ -167,7 +168,7 @@ answered width b = go (sized width (length b)) (scan (entries width b) 0 0) refl
     go : (t : Bool) (o : Option ℕ) → sized width (length b) ≡ t → scan (entries width b) 0 0 ≡ o
         → (checkOf width b ≡ Sound)
         ⊎ (checkOf width b ≡ Refused Size)
-        ⊎ ((i : ℕ) × (i ≤ length (entries width b)) × (checkOf width b ≡ Refused (Body 0 i)))
+        ⊎ ((i : ℕ) × (i ≤ length (entries width b)) × (checkOf width b ≡ Refused (brokenAt 0 i)))
     go true none p q = inl (check-by width b p ∙ ap (verdict 0) q)
     go true (some i) p q =
         inr (inr (i, lowest-le (entries width b) i (scanned width b (some i) p q), check-by width b p ∙ ap (verdict 0) q))

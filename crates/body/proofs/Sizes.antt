@@ -1,6 +1,6 @@
 -- The length of a body: what the test of its length says, and what the check's answer says of it. Assumes nothing.
 use Prim.Native.Nat.{ℕ, _+_, _*_, _/_, _%_, _≤_}
-use mathlib.Core.Path.{_≡_, refl}
+use mathlib.Core.Path.{_≡_, refl, ap}
 use mathlib.Core.Bool.{Bool, true, false, cond}
 use mathlib.Core.List.{List}
 use mathlib.Core.Option.{Option, none, some}
@@ -10,7 +10,8 @@ use lib.Dec.{eqb, leb}
 use lib.ListN.{length}
 use borrow.Author.Tests.{eq-eqb, le-leb, eqb-true, leb-true}
 use Rattle.rules.specs.Limits.{mostEntries}
-use Rattle.refusal.specs.declared.Refusal.the-variants.{Size, Body}
+use Rattle.refusal.specs.declared.Refusal.the-variants.{Size}
+use Rattle.refusal.specs.Table.{entryOf, brokenAt}
 use Rattle.body.specs.declared.BodyCheck.the-variants.{Sound, Refused}
 use Rattle.body.specs.Entry.{entries}
 use Rattle.body.specs.Check.{scan, sized, verdict, checkOf}
@@ -55,9 +56,9 @@ sound-cond true none p = (refl, refl)
 sound-cond true (some i) p = let z : _≡_ {A = ℕ} 0 1 = cc in absurd (omega arith)
 sound-cond false o p = let z : _≡_ {A = ℕ} 0 1 = cc in absurd (omega arith)
 
-body-cond : (t : Bool) (o : Option ℕ) (i : ℕ) → cond t (verdict 0 o) (Refused Size) ≡ Refused (Body 0 i) → (t ≡ true) × (o ≡ some i)
+body-cond : (t : Bool) (o : Option ℕ) (i : ℕ) → cond t (verdict 0 o) (Refused Size) ≡ Refused (brokenAt 0 i) → (t ≡ true) × (o ≡ some i)
 body-cond true none i p = let z : _≡_ {A = ℕ} 0 1 = cc in absurd (omega arith)
-body-cond true (some j) i p = (refl, cc)
+body-cond true (some j) i p = let q : brokenAt 0 j ≡ brokenAt 0 i = cc in (refl, ap some (ap entryOf q))
 body-cond false o i p = let z : _≡_ {A = ℕ} 0 1 = cc in absurd (omega arith)
 
 size-cond : (t : Bool) (o : Option ℕ) → cond t (verdict 0 o) (Refused Size) ≡ Refused Size → t ≡ false
@@ -70,7 +71,7 @@ module _ (width : ℕ) (b : List ℕ) where
   unfolding checkOf
   sound-parts p = sound-cond (sized width (length b)) (scan (entries width b) 0 0) p
 
-  pub body-parts : (i : ℕ) → checkOf width b ≡ Refused (Body 0 i) → (sized width (length b) ≡ true) × (scan (entries width b) 0 0 ≡ some i)
+  pub body-parts : (i : ℕ) → checkOf width b ≡ Refused (brokenAt 0 i) → (sized width (length b) ≡ true) × (scan (entries width b) 0 0 ≡ some i)
   unfolding checkOf
   body-parts i p = body-cond (sized width (length b)) (scan (entries width b) 0 0) i p
 

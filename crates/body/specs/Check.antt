@@ -6,7 +6,8 @@ use mathlib.Core.Option.{Option, none, some}
 use lib.Dec.{leb, eqb}
 use lib.ListN.{length}
 use Rattle.rules.specs.Limits.{mostEntries}
-use Rattle.refusal.specs.declared.Refusal.the-variants.{Size, Body}
+use Rattle.refusal.specs.declared.Refusal.the-variants.{Size}
+use Rattle.refusal.specs.Table.{brokenAt}
 use Rattle.body.specs.declared.Entry.{Entry}
 use Rattle.body.specs.declared.Entry.the-variants.{Letter, Pair, Within, Wrong}
 use Rattle.body.specs.declared.Depth.{Depth}
@@ -38,7 +39,7 @@ sized width n = cond (eqb (n % (width + 1)) 0) (cond (leb (width + 1) n) (leb n 
 -- the answer for body number `index`
 abbrev pub verdict : ℕ → Option ℕ → BodyCheck
 verdict index none = Sound
-verdict index (some entry) = Refused (Body index entry)
+verdict index (some entry) = Refused (brokenAt index entry)
 
 -- the answer for a lone body: Size, then Body
 unfoldable pub checkOf : ℕ → List ℕ → BodyCheck

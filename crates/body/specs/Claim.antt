@@ -6,7 +6,8 @@ use mathlib.Core.List.{List, [], _∷_, _++_}
 use lib.ListN.{length, take, getD}
 use Rattle.rules.specs.Limits.{mostEntries}
 use Rattle.rules.specs.Pattern.{Pattern}
-use Rattle.refusal.specs.declared.Refusal.the-variants.{Size, Body}
+use Rattle.refusal.specs.declared.Refusal.the-variants.{Size}
+use Rattle.refusal.specs.Table.{brokenAt}
 use Rattle.body.specs.declared.Entry.{Entry}
 use Rattle.body.specs.declared.Entry.the-variants.{Letter, Pair, Within, Wrong}
 use Rattle.body.specs.declared.BodyCheck.the-variants.{Sound, Refused}
@@ -55,11 +56,11 @@ pub record Counted (width n : ℕ) : Type 0 where
 
 -- a refusal names the lowest entry that breaks a rule
 abbrev pub RefusedLowest : ℕ → Type 0
-RefusedLowest width = (b : List ℕ) (i : ℕ) → checkOf width b ≡ Refused (Body 0 i) → Lowest (entries width b) i
+RefusedLowest width = (b : List ℕ) (i : ℕ) → checkOf width b ≡ Refused (brokenAt 0 i) → Lowest (entries width b) i
 
 -- and where the length is that of 1 to 63 entries, the lowest entry that breaks a rule is refused
 abbrev pub LowestRefused : ℕ → Type 0
-LowestRefused width = (b : List ℕ) (i : ℕ) → Counted width (length b) → Lowest (entries width b) i → checkOf width b ≡ Refused (Body 0 i)
+LowestRefused width = (b : List ℕ) (i : ℕ) → Counted width (length b) → Lowest (entries width b) i → checkOf width b ≡ Refused (brokenAt 0 i)
 
 -- Size is given exactly if the length is not that of 1 to 63 entries
 abbrev pub RefusedSize : ℕ → Type 0
@@ -71,4 +72,4 @@ Answered width =
     (b : List ℕ)
     → (checkOf width b ≡ Sound)
     ⊎ (checkOf width b ≡ Refused Size)
-    ⊎ ((i : ℕ) × (i ≤ length (entries width b)) × (checkOf width b ≡ Refused (Body 0 i)))
+    ⊎ ((i : ℕ) × (i ≤ length (entries width b)) × (checkOf width b ≡ Refused (brokenAt 0 i)))

@@ -1,5 +1,10 @@
 // Entries and bodies: what an entry stands for, and the check of a body.
+use refusal::Fault;
 use refusal::Refusal;
+use rules::ENTRY_BYTES;
+use rules::LAST_TICK;
+use rules::LETTERS;
+use rules::MOST_BODY;
 use rules::Op;
 ghost use mathlib.Core.Path.{_≡_};
 ghost use Prim.Native.Nat.{_+_, _<_};
@@ -8,12 +13,6 @@ ghost use Rattle.rules.specs.Limits.{argumentBytes};
 ghost use Rattle.body.specs.Bytes.{valueAt};
 ghost use Rattle.body.specs.Entry.{opOf, entryOf, entryAt};
 ghost use Rattle.body.specs.Check.{depthOf, checkOf};
-
-// The bytes of an entry: an op, and an argument of four bytes.
-const ENTRY_BYTES: usize = 5;
-
-// The bytes of the longest body: 63 entries.
-const MOST_BYTES: usize = 315;
 
 // What an entry stands for: a letter, an operator on two patterns, a restriction; or it breaks a rule by itself.
 pub enum Entry {
@@ -46,7 +45,7 @@ pub fn check_body(body: &[u8]) -> BodyCheck
     if bytes < ENTRY_BYTES {
         return BodyCheck::Refused(Refusal::Size);
     }
-    if bytes > MOST_BYTES {
+    if bytes > MOST_BODY {
         return BodyCheck::Refused(Refusal::Size);
     }
     let entries = bytes / ENTRY_BYTES;
@@ -58,7 +57,7 @@ pub fn check_body(body: &[u8]) -> BodyCheck
                 trees = left as u32;
             }
             Depth::Lacks => {
-                return BodyCheck::Refused(Refusal::Body(0, i));
+                return BodyCheck::Refused(Refusal::Body(Fault { body: 0, entry: i }));
             }
         }
         i += 1;
@@ -66,7 +65,7 @@ pub fn check_body(body: &[u8]) -> BodyCheck
     if trees == 1 {
         BodyCheck::Sound
     } else {
-        BodyCheck::Refused(Refusal::Body(0, i))
+        BodyCheck::Refused(Refusal::Body(Fault { body: 0, entry: i }))
     }
 }
 
@@ -102,7 +101,7 @@ pub fn decode(op: u64, argument: u64) -> Entry
     ensures { λ r. ⌜ r ≡ entryOf argumentBytes op argument ⌝ }
 {
     if op == 0 {
-        if argument < 32 {
+        if argument < LETTERS {
             return Entry::Letter(argument);
         }
         return Entry::Wrong;
@@ -114,7 +113,7 @@ pub fn decode(op: u64, argument: u64) -> Entry
         return Entry::Wrong;
     }
     if op == 5 {
-        if argument < 4294967296 {
+        if argument <= LAST_TICK {
             return Entry::Within(argument);
         }
         return Entry::Wrong;

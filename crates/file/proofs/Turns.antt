@@ -11,7 +11,8 @@ use lib.ListN.{length, getD, take, drop, set, length-set, length-drop, drop-of-l
 use lib.Seq.{drop-cons, drop-drop, getD-drop, length-take-le, take-all, take-suc-set, drop-set-lt, append-snoc}
 use borrow.Author.Tests.{eq-eqb, ne-eqb}
 use Rattle.rules.specs.Limits.{argumentBytes, mostPatterns}
-use Rattle.refusal.specs.declared.Refusal.the-variants.{Entry, Body}
+use Rattle.refusal.specs.declared.Refusal.the-variants.{Entry}
+use Rattle.refusal.specs.Table.{brokenAt}
 use Rattle.body.specs.declared.Depth.the-variants.{Lacks, To}
 use Rattle.body.specs.Entry.{entryAt, entriesBy, entries}
 use Rattle.body.specs.Check.{depthOf, scan}
@@ -137,7 +138,7 @@ module _ {counts bodies : List ℕ} {b at n end : ℕ} (k : AtBody counts bodies
       rw (drop-cons counts b 0 (k .there), add-one b, long, drop-drop (end - at) at bodies, next)
 
   pub searched-here : {e : ℕ} → scan (entries argumentBytes (take (end - at) (drop at bodies))) 0 0 ≡ some e
-      → Refused (Body b e) ≡ brokenBody counts bodies 0
+      → Refused (brokenAt b e) ≡ brokenBody counts bodies 0
   searched-here o = rw (turned, o) at (k .before .same)
 
   pub searched-more : scan (entries argumentBytes (take (end - at) (drop at bodies))) 0 0 ≡ none → Searched counts bodies (b + 1) end

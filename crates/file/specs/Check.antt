@@ -7,7 +7,8 @@ use mathlib.Core.Option.{Option, none, some}
 use lib.Dec.{leb, eqb}
 use lib.ListN.{length, getD, take, drop}
 use Rattle.rules.specs.Limits.{argumentBytes, mostEntries, mostPatterns}
-use Rattle.refusal.specs.declared.Refusal.the-variants.{Count, Entry, Size, Body}
+use Rattle.refusal.specs.declared.Refusal.the-variants.{Count, Entry, Size}
+use Rattle.refusal.specs.Table.{brokenAt}
 use Rattle.body.specs.Bytes.{valueAt}
 use Rattle.body.specs.Entry.{entries}
 use Rattle.body.specs.Check.{scan}
@@ -27,7 +28,7 @@ brokenEntry before names (n ∷ counts) i =
 
 abbrev pub onBody : Option ℕ → ℕ → FileCheck → FileCheck
 onBody none b rest = rest
-onBody (some i) b rest = Refused (Body b i)
+onBody (some i) b rest = Refused (brokenAt b i)
 
 -- the lowest body, and in it the lowest entry, that breaks a rule, counted from body b
 unfoldable pub brokenBody : List ℕ → List ℕ → ℕ → FileCheck

@@ -1,11 +1,11 @@
 // The check of a file after its count: the contents, then the bodies.
 use crate::CONTENT_BYTES;
-use crate::ENTRY_BYTES;
 use crate::FileCheck;
-use crate::MOST_PATTERNS;
 use crate::NAME_BYTES;
 use crate::parts;
 use refusal::Refusal;
+use rules::ENTRY_BYTES;
+use rules::MOST_PATTERNS;
 ghost use mathlib.Core.Path.{_≡_};
 ghost use mathlib.Core.List.{[], _++_};
 ghost use Prim.Native.Nat.{_≤_};

@@ -1,10 +1,10 @@
 // The search for a name in a sound file.
 use crate::CONTENT_BYTES;
-use crate::ENTRY_BYTES;
 use crate::NAME_BYTES;
 use crate::Place;
 use crate::contents;
 use crate::parts;
+use rules::ENTRY_BYTES;
 ghost use mathlib.Core.Path.{_≡_};
 ghost use Rattle.file.specs.declared.FileCheck.the-variants.{Sound};
 ghost use Rattle.file.specs.Check.{checkOf};

@@ -11,18 +11,10 @@ ghost use Rattle.file.specs.Check.{checkOf};
 ghost use Rattle.file.specs.Write.{Wrote};
 ghost use Rattle.file.specs.Lookup.{findingOf, partOf};
 
-// The most patterns of a file.
-const MOST_PATTERNS: usize = 16;
-
 // The bytes of a name, and of an entry of the contents.
-const NAME_BYTES: usize = 8;
+pub const NAME_BYTES: usize = 8;
 
-const CONTENT_BYTES: usize = 12;
-
-// The bytes of an entry of a body, and the most entries.
-const ENTRY_BYTES: usize = 5;
-
-const MOST_ENTRIES: u8 = 63;
+pub const CONTENT_BYTES: usize = 12;
 
 // What the check of a file answers.
 pub enum FileCheck {

@@ -1,12 +1,13 @@
 // The rules that a file and the parts given to the writer share: on an entry of the contents, and on the bodies.
-use crate::ENTRY_BYTES;
 use crate::FileCheck;
-use crate::MOST_ENTRIES;
-use crate::MOST_PATTERNS;
 use crate::NAME_BYTES;
 use crate::name;
 use body::Depth;
+use refusal::Fault;
 use refusal::Refusal;
+use rules::ENTRY_BYTES;
+use rules::MOST_ENTRIES;
+use rules::MOST_PATTERNS;
 ghost use mathlib.Core.Path.{_≡_};
 ghost use mathlib.Core.List.{[]};
 ghost use Prim.Native.Nat.{_<_};
@@ -67,7 +68,7 @@ pub(crate) fn entry_kept(before: &[u8], name: &[u8], n: u8) -> bool
     if n < 1 {
         return false;
     }
-    n <= MOST_ENTRIES
+    n as usize <= MOST_ENTRIES
 }
 
 // Checks bodies that lie end to end: that they end where their numbers of entries say, and each of them.
@@ -123,13 +124,13 @@ fn broken_body(counts: &[u8], bodies: &[u8]) -> FileCheck
                     trees = left as u32;
                 }
                 Depth::Lacks => {
-                    break 'bodies FileCheck::Refused(Refusal::Body(b, e));
+                    break 'bodies FileCheck::Refused(Refusal::Body(Fault { body: b, entry: e }));
                 }
             }
             e += 1;
         }
         if trees != 1 {
-            break 'bodies FileCheck::Refused(Refusal::Body(b, e));
+            break 'bodies FileCheck::Refused(Refusal::Body(Fault { body: b, entry: e }));
         }
         at = end;
         b += 1;

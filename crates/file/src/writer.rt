@@ -1,8 +1,8 @@
 // Writing the contents of a file.
 use crate::CONTENT_BYTES;
-use crate::ENTRY_BYTES;
 use crate::NAME_BYTES;
 use crate::parts;
+use rules::ENTRY_BYTES;
 ghost use mathlib.Core.Path.{_≡_};
 ghost use lib.ListN.{length};
 ghost use Rattle.file.specs.Contents.{contentOf, contents, bodiesAt};

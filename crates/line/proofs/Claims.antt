@@ -32,13 +32,13 @@ use Rattle.line.proofs.Parses.{parse-line, line-parsed}
 -- reading, computed
 parsedTo : Parsed → LineRead
 parsedTo none = Unread Line
-parsedTo (line t w) = cond (ltb t ticks) (Tick t w) (Unread Range)
+parsedTo (line t w) = cond (ltb t ticks) (Tick t w) (Unread (Range 0))
 
 readOf : List ℕ → LineRead
 readOf s = cond (ltb mostLine (length s)) (Unread Line) (parsedTo (parse s))
 
 module _ (s : List ℕ) where
-  of-line : (t w : ℕ) → length s ≤ mostLine → LineOf s t w → readOf s ≡ cond (ltb t ticks) (Tick t w) (Unread Range)
+  of-line : (t w : ℕ) → length s ≤ mostLine → LineOf s t w → readOf s ≡ cond (ltb t ticks) (Tick t w) (Unread (Range 0))
   unfolding readOf parsedTo
   of-line t w h l = simp (le-ltb mostLine (length s) h, parse-line s t w l)
 
@@ -79,7 +79,7 @@ is-line : {s : List ℕ} → RefusedLine s Line → (mostLine < length s) ⊎ ((
 is-line (long h) = inl h
 is-line (malformed f) = inr f
 
-is-range : {s : List ℕ} → RefusedLine s Range → IsRange s
+is-range : {s : List ℕ} → RefusedLine s (Range 0) → IsRange s
 is-range (range i) = i
 
 pub line-exactly : LineExactly
@@ -90,7 +90,7 @@ line-exactly s r a = (λ e. is-line (subst (LineReadOf s) e a), back)
     back (inr f) = one-reading s r (Unread Line) a (malformed f)
 
 pub range-exactly : RangeExactly
-range-exactly s r a = (λ e. is-range (subst (LineReadOf s) e a), λ i. one-reading s r (Unread Range) a (range i))
+range-exactly s r a = (λ e. is-range (subst (LineReadOf s) e a), λ i. one-reading s r (Unread (Range 0)) a (range i))
 
 -- ---- writing
 

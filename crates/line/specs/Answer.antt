@@ -37,7 +37,7 @@ pub record IsRange (s : List ℕ) : Type 0 where
 pub data RefusedLine (s : List ℕ) : Refusal → Type 0 where
   long : mostLine < length s → RefusedLine s Line
   malformed : ((t w : ℕ) → LineOf s t w → ⊥) → RefusedLine s Line
-  range : IsRange s → RefusedLine s Range
+  range : IsRange s → RefusedLine s (Range 0)
 
 -- the answer to reading the line s
 abbrev pub LineReadOf : List ℕ → LineRead → Type 0

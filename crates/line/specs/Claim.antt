@@ -42,7 +42,7 @@ LineExactly =
 
 -- a tick is out of range exactly if its line is well formed and it is over 4,294,967,295
 abbrev pub RangeExactly : Type 0
-RangeExactly = (s : List ℕ) (r : LineRead) → LineReadOf s r → (r ≡ Unread Range) ↔ IsRange s
+RangeExactly = (s : List ℕ) (r : LineRead) → LineReadOf s r → (r ≡ Unread (Range 0)) ↔ IsRange s
 
 -- a line is written where there is room for it
 abbrev pub WrittenFits : Type 0

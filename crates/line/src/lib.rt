@@ -4,14 +4,12 @@ mod writer;
 
 use reader::Decimal;
 use refusal::Refusal;
+use rules::LAST_TICK;
 ghost use Rattle.line.specs.Lines.{windowLine, tallyLine, refusedLine};
 ghost use Rattle.line.specs.Answer.{LineReadOf, LineWrittenOf};
 
 // The bytes that a tick's line may have.
 const MOST_LINE: usize = 1024;
-
-// The largest tick.
-const MOST_TICK: u64 = 4294967295;
 
 // What reading a line answers: the tick and its word of events, or why the line is refused.
 pub enum LineRead {
@@ -46,8 +44,8 @@ pub fn read_tick(line: &[u8]) -> LineRead
             if events == 0 {
                 return LineRead::Refused(Refusal::Line);
             }
-            if tick > MOST_TICK {
-                return LineRead::Refused(Refusal::Range);
+            if tick > LAST_TICK {
+                return LineRead::Refused(Refusal::Range(0));
             }
             LineRead::Tick(tick, events)
         }

@@ -1,4 +1,5 @@
 // Reading: the number at the front of a line, and the letters after its space.
+use rules::LAST_TICK;
 ghost use mathlib.Core.Path.{_≡_};
 ghost use Prim.Native.Nat.{_+_, _*_, _≤_, min};
 ghost use native.Mathlib.Decide.{decLt};
@@ -12,7 +13,7 @@ ghost use Rattle.line.specs.Told.{NumberOf};
 const LETTERS: u8 = 32;
 
 // What any larger number is taken for: one more than the largest tick.
-const OVER: u64 = 4294967296;
+const OVER: u64 = LAST_TICK + 1;
 
 // Where a number ends and its value, or that there is none.
 pub(crate) enum Decimal {

@@ -2,6 +2,8 @@
 use body::BodyCheck;
 use body::Entry;
 use refusal::Refusal;
+use rules::ENTRY_BYTES;
+use rules::MOST_WORDS;
 use rules::Op;
 ghost use mathlib.Core.Path.{_≡_};
 ghost use mathlib.Core.Logic.{_⊎_};
@@ -13,6 +15,9 @@ ghost use Rattle.plain.specs.Row.{Exactly, IsLatest};
 ghost use Rattle.plain.specs.Rows.{Shown, rowsOf, worded};
 ghost use Rattle.plain.specs.Answer.{Answers, RowsAfter, Ready};
 ghost use Rattle.plain.specs.Fill.{Before, Seen, Lesser, Masked, PairReady, Filled};
+
+// The rows of an entry, one a tick.
+const ROWS: usize = MOST_WORDS;
 
 // What evaluating answers.
 pub enum Evaluation {
@@ -33,10 +38,10 @@ pub fn evaluate(body: &[u8], events: &[u32], rows: &mut [u64]) -> Evaluation
     match body::check_body(body) {
         BodyCheck::Refused(r) => Evaluation::Refused(r),
         BodyCheck::Sound => {
-            if 64 < events.len() {
+            if MOST_WORDS < events.len() {
                 return Evaluation::Refused(Refusal::Record);
             }
-            let needed = body.len() / 5 * 64;
+            let needed = body.len() / ENTRY_BYTES * ROWS;
             if rows.len() < needed {
                 return Evaluation::Refused(Refusal::Room(needed));
             }
@@ -68,7 +73,7 @@ fn fill_rows(body: &[u8], events: &[u32], rows: &mut [u64])
     requires { ⌜ Ready (now body) (now events) (now rows) ⌝ }
     ensures { λ _. ⌜ RowsAfter (now (body .entry)) (now (events .entry)) (now (rows .entry)) (now (rows .exit)) Evaluation.Evaluated ⌝ }
 {
-    let n = body.len() / 5;
+    let n = body.len() / ENTRY_BYTES;
     let mut tops = [0usize; 63];
     let mut d: usize = 0;
     let mut i: usize = 0;
@@ -101,9 +106,9 @@ fn fill_letter(rows: &mut [u64], events: &[u32], kind: u64, k: usize)
     requires { ⌜ k * 64 + 64 ≤ length (now rows) ⌝ }
     ensures { λ _. ⌜ Filled (Occurs (worded (now (events .entry))) kind) k (now (rows .entry)) (now (rows .exit)) ⌝ }
 {
-    let at = k * 64;
+    let at = k * ROWS;
     let mut e = 0;
-    while e < 64 {
+    while e < ROWS {
         let mut row: u64 = 0;
         if e < events.len() {
             row = letter_row(events[e], kind, e);
@@ -130,10 +135,10 @@ fn fill_within(rows: &mut [u64], limit: u64, x: usize, k: usize)
     requires { ⌜ (x < k) × (k * 64 + 64 ≤ length (now rows)) ⌝ }
     ensures { λ _. ⌜ Filled (Short limit (Shown (rowsOf (now (rows .entry)) x))) k (now (rows .entry)) (now (rows .exit)) ⌝ }
 {
-    let from = x * 64;
-    let at = k * 64;
+    let from = x * ROWS;
+    let at = k * ROWS;
     let mut e = 0;
-    while e < 64 {
+    while e < ROWS {
         rows[at + e] = within_row(rows[from + e], e as u64, limit);
         e += 1;
     }
@@ -158,12 +163,12 @@ fn fill_pair(rows: &mut [u64], op: Op, x: usize, y: usize, k: usize)
     requires { ⌜ (x < k) × (y < k) × (k * 64 + 64 ≤ length (now rows)) ⌝ }
     ensures { λ _. ⌜ Filled (Rule op (Shown (rowsOf (now (rows .entry)) x)) (Shown (rowsOf (now (rows .entry)) y))) k (now (rows .entry)) (now (rows .exit)) ⌝ }
 {
-    let left = x * 64;
-    let right = y * 64;
+    let left = x * ROWS;
+    let right = y * ROWS;
     let mut seen_x = [0u64; 65];
     let mut seen_y = [0u64; 65];
-    see(&rows[left..left + 64], &mut seen_x);
-    see(&rows[right..right + 64], &mut seen_y);
+    see(&rows[left..left + ROWS], &mut seen_x);
+    see(&rows[right..right + ROWS], &mut seen_y);
     fill_masked(rows, op, x, y, k, &seen_x, &seen_y);
 }
 
@@ -175,7 +180,7 @@ fn see(rows: &[u64], masks: &mut [u64])
     let mut sum: u64 = 0;
     masks[0] = 0;
     let mut i = 0;
-    while i < 64 {
+    while i < ROWS {
         sum |= rows[i];
         masks[i + 1] = sum;
         i += 1;
@@ -187,13 +192,20 @@ fn fill_masked(rows: &mut [u64], op: Op, x: usize, y: usize, k: usize, left: &[u
     requires { ⌜ PairReady (now rows) x y k (now left) (now right) ⌝ }
     ensures { λ _. ⌜ Filled (Rule op (Shown (rowsOf (now (rows .entry)) x)) (Shown (rowsOf (now (rows .entry)) y))) k (now (rows .entry)) (now (rows .exit)) ⌝ }
 {
-    let from = x * 64;
-    let to = y * 64;
-    let at = k * 64;
+    let from = x * ROWS;
+    let to = y * ROWS;
+    let at = k * ROWS;
     let mut e = 0;
-    while e < 64 {
+    while e < ROWS {
         let all = &rows[..];
-        let row = pair_row(op, &all[from..from + 64], &all[to..to + 64], left, right, e);
+        let row = pair_row(
+            op,
+            &all[from..from + ROWS],
+            &all[to..to + ROWS],
+            left,
+            right,
+            e,
+        );
         rows[at + e] = row;
         e += 1;
     }

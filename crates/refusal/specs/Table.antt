@@ -1,63 +1,57 @@
--- Document 01's table of refusals: each one's number, its place, and the entry that refusal 7 names besides; and the word for C.
--- Assumes nothing: these are definitions.
-use Prim.Native.Nat.{ℕ, _+_, _*_, _%_, _^_}
+-- The table of refusals (docs/RULES.md, "Refusals"): each one's number, its place, and the entry that refusal 7 names besides; and the status word
+-- for C. Assumes nothing: these are definitions.
+use Prim.Native.Nat.{ℕ, _+_, _-_, _*_, _^_, min}
 use Rattle.refusal.specs.declared.Refusal.{Refusal}
 use Rattle.refusal.specs.declared.Refusal.the-variants.{Long, Syntax, Many, Count, Entry, Size, Body, Room, State, Range, Late, Record, Full, Line, Absent}
 
--- the number
+-- a row of the table
+pub record Row : Type 0 where
+  pub number : ℕ
+  pub place : ℕ
+  pub entry : ℕ
+
+-- a refusal at a place
+abbrev pub at : ℕ → ℕ → Row
+at number place = record { number = number; place = place; entry = 0 }
+
+-- the table: the place is 0 where none is named, and only `Body` names an entry besides
+abbrev pub rowOf : Refusal → Row
+rowOf Long = at 1 0
+rowOf (Syntax bytes) = at 2 bytes
+rowOf Many = at 3 0
+rowOf Count = at 4 0
+rowOf (Entry index) = at 5 index
+rowOf Size = at 6 0
+rowOf (Body fault) = record { number = 7; place = fault .body; entry = fault .entry }
+rowOf (Room needed) = at 8 needed
+rowOf (State index) = at 9 index
+rowOf (Range index) = at 10 index
+rowOf (Late index) = at 11 index
+rowOf Record = at 12 0
+rowOf Full = at 13 0
+rowOf Line = at 14 0
+rowOf Absent = at 15 0
+
 abbrev pub numberOf : Refusal → ℕ
-numberOf Long = 1
-numberOf (Syntax bytes) = 2
-numberOf Many = 3
-numberOf Count = 4
-numberOf (Entry index) = 5
-numberOf Size = 6
-numberOf (Body body entry) = 7
-numberOf (Room needed) = 8
-numberOf (State index) = 9
-numberOf Range = 10
-numberOf (Late index) = 11
-numberOf Record = 12
-numberOf Full = 13
-numberOf Line = 14
-numberOf Absent = 15
+numberOf r = rowOf r .number
 
--- the place, 0 where none is named
 abbrev pub placeOf : Refusal → ℕ
-placeOf Long = 0
-placeOf (Syntax bytes) = bytes
-placeOf Many = 0
-placeOf Count = 0
-placeOf (Entry index) = index
-placeOf Size = 0
-placeOf (Body body entry) = body
-placeOf (Room needed) = needed
-placeOf (State index) = index
-placeOf Range = 0
-placeOf (Late index) = index
-placeOf Record = 0
-placeOf Full = 0
-placeOf Line = 0
-placeOf Absent = 0
+placeOf r = rowOf r .place
 
--- the entry that refusal 7 names within its body, 0 for any other
 abbrev pub entryOf : Refusal → ℕ
-entryOf Long = 0
-entryOf (Syntax bytes) = 0
-entryOf Many = 0
-entryOf Count = 0
-entryOf (Entry index) = 0
-entryOf Size = 0
-entryOf (Body body entry) = entry
-entryOf (Room needed) = 0
-entryOf (State index) = 0
-entryOf Range = 0
-entryOf (Late index) = 0
-entryOf Record = 0
-entryOf Full = 0
-entryOf Line = 0
-entryOf Absent = 0
+entryOf r = rowOf r .entry
 
--- the word for C: the number in bits 0-7, the place in bits 8-39, the entry in bits 40-47
+-- the refusal of an entry of a body
+abbrev pub brokenAt : ℕ → ℕ → Refusal
+brokenAt body entry = Body (record { body = body; entry = entry })
+
+-- the largest place and the largest entry that fit the status word
+abbrev pub mostPlace : ℕ
+mostPlace = 2 ^ 32 - 1
+
+abbrev pub mostEntry : ℕ
+mostEntry = 2 ^ 8 - 1
+
+-- the status word: the number in bits 0-7, the place in bits 8-39, the entry in bits 40-47; what does not fit is the largest that does
 unfoldable pub packedOf : Refusal → ℕ
-packedOf r = numberOf r + 256 * (placeOf r % 2 ^ 32) + 2 ^ 40 * (entryOf r % 256)
+packedOf r = numberOf r + 2 ^ 8 * min (placeOf r) mostPlace + 2 ^ 40 * min (entryOf r) mostEntry

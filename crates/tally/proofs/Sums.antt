@@ -12,7 +12,7 @@ use Rattle.tally.specs.Tallied.{outside, more, over, addedTo}
 use Rattle.tally.specs.Claim.{span, none, one, Sums}
 
 -- what is added is the window counted
-picked : (a b : Bool) (t u : Tally) → cond a (Refused Range) (cond b (Refused Full) (Added t)) ≡ Added u → t ≡ u
+picked : (a b : Bool) (t u : Tally) → cond a (Refused (Range 0)) (cond b (Refused Full) (Added t)) ≡ Added u → t ≡ u
 picked true b t u p = let z : _≡_ {A = ℕ} 0 1 = cc in absurd (omega arith)
 picked false true t u p = let z : _≡_ {A = ℕ} 0 1 = cc in absurd (omega arith)
 picked false false t u p = cc

@@ -23,7 +23,7 @@ over tally = leb (2 ^ 64) (tally .windows) || leb (2 ^ 64) (tally .ticks)
 
 -- Range, then Full, else the tally with the window counted
 unfoldable pub addedTo : Tally → ℕ → ℕ → Adding
-addedTo tally start end = cond (outside start end) (Refused Range) (cond (over (more tally start end)) (Refused Full) (Added (more tally start end)))
+addedTo tally start end = cond (outside start end) (Refused (Range 0)) (cond (over (more tally start end)) (Refused Full) (Added (more tally start end)))
 
 -- 0, or the refusal's word for C
 abbrev pub statusOf : Adding → ℕ

@@ -1,5 +1,6 @@
 // The tally of windows: how many, and the ticks they take in all.
 use refusal::Refusal;
+use rules::LAST_TICK;
 ghost use mathlib.Core.Path.{_≡_};
 ghost use Rattle.tally.specs.Tallied.{addedTo, statusOf, after};
 
@@ -51,10 +52,10 @@ pub fn added(tally: Tally, start: u64, end: u64) -> Adding
     ensures { λ r. ⌜ r ≡ addedTo tally start end ⌝ }
 {
     if end < start {
-        return Adding::Refused(Refusal::Range);
+        return Adding::Refused(Refusal::Range(0));
     }
-    if 4294967295 < end {
-        return Adding::Refused(Refusal::Range);
+    if LAST_TICK < end {
+        return Adding::Refused(Refusal::Range(0));
     }
     let long = end - start + 1;
     if tally.windows == 0xffff_ffff_ffff_ffff {

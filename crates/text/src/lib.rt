@@ -4,19 +4,17 @@ mod reader;
 
 use body::BodyCheck;
 use printer::MOST_PRINTED;
-use reader::ENTRY;
 use reader::LETTERS;
-use reader::MOST_BODY;
-use reader::MOST_ENTRIES;
 use reader::Reach;
 use reader::SMALL;
 use refusal::Refusal;
+use rules::ENTRY_BYTES;
+use rules::MOST_BODY;
+use rules::MOST_ENTRIES;
+use rules::MOST_TEXT;
 ghost use mathlib.Core.Path.{_≡_};
 ghost use Rattle.text.specs.Machine.{letterOf, digitOf};
 ghost use Rattle.text.specs.Answer.{ReadingOf, PrintingOf};
-
-// The bytes that a text may have.
-const MOST_TEXT: usize = 1024;
 
 // What reading a text answers: the bytes of body written, or why the text is refused.
 pub enum Reading {
@@ -48,7 +46,7 @@ pub fn read_pattern(text: &[u8], body: &mut [u8]) -> Reading
             if entries > MOST_ENTRIES {
                 return Reading::Refused(Refusal::Many);
             }
-            let need = entries * ENTRY;
+            let need = entries * ENTRY_BYTES;
             if body.len() < need {
                 return Reading::Refused(Refusal::Room(need));
             }
@@ -67,7 +65,12 @@ pub fn print_pattern(body: &[u8], text: &mut [u8]) -> Printing
         BodyCheck::Refused(r) => Printing::Refused(r),
         BodyCheck::Sound => {
             let mut made = [0u8; MOST_PRINTED];
-            let begin = printer::write_tree(body, body.len() / ENTRY, &mut made, MOST_PRINTED);
+            let begin = printer::write_tree(
+                body,
+                body.len() / ENTRY_BYTES,
+                &mut made,
+                MOST_PRINTED,
+            );
             let from = begin.byte;
             let need = MOST_PRINTED - from;
             if text.len() < need {

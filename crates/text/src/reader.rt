@@ -1,4 +1,8 @@
 // Reading: an expression holds a tail, and a tail holds expressions. The bytes left to read fall at each call.
+use rules::ENTRY_BYTES;
+use rules::LAST_TICK;
+use rules::MOST_BODY;
+use rules::MOST_ENTRIES;
 ghost use mathlib.Core.Path.{_≡_};
 ghost use mathlib.Core.List.{_∷_};
 ghost use Prim.Native.Nat.{_≤_};
@@ -8,21 +12,11 @@ ghost use Rattle.body.specs.Bytes.{bytesOf};
 ghost use Rattle.text.specs.Machine.{signOf, signNumber};
 ghost use Rattle.text.specs.Told.{DecimalAt, Written, ExpressionAt, TailAt};
 
-// The entries of the longest body, the bytes of an entry, and so the bytes of the longest body.
-pub(crate) const MOST_ENTRIES: usize = 63;
-
-pub(crate) const ENTRY: usize = 5;
-
-pub(crate) const MOST_BODY: usize = 315;
-
-// The number of event types.
+// The number of event types, as `letter` counts them.
 pub(crate) const LETTERS: u8 = 32;
 
 // A small letter less this is its event type: `a` is 26.
 pub(crate) const SMALL: u8 = 71;
-
-// The largest number of a restriction.
-const MOST_NUMBER: u64 = 4294967295;
 
 // Where an expression or a tail ends and the number of entries then, or the place where nothing could go on.
 pub(crate) enum Reach {
@@ -135,7 +129,7 @@ fn read_number(text: &[u8], at: usize) -> Decimal
             return Decimal::Value(end, value as u32);
         }
         let more = value * 10 + (e as u64);
-        if more > MOST_NUMBER {
+        if more > LAST_TICK {
             return Decimal::Bad(end);
         }
         value = more;
@@ -168,7 +162,7 @@ fn put(body: &mut [u8; MOST_BODY], n: usize, op: u8, argument: u32)
     ensures { λ _. ⌜ Written (now (body .entry)) (now (body .exit)) n (op ∷ bytesOf argumentBytes argument) ⌝ }
 {
     if n < MOST_ENTRIES {
-        let at = n * ENTRY;
+        let at = n * ENTRY_BYTES;
         body[at] = op;
         body[at + 1] = (argument % 256) as u8;
         body[at + 2] = (argument / 256 % 256) as u8;

@@ -58,5 +58,5 @@ refused-late s t r q l =
     let f : InForm s = formed-exactly s .0 q in
     below r f (omega (arith, next-word f)) refl
 
-pub refused-range : (s : List ℕ) (t : ℕ) → ticks ≤ t → TickRefused s t Range
+pub refused-range : (s : List ℕ) (t : ℕ) → ticks ≤ t → TickRefused s t (Range 0)
 refused-range s t r = over r refl

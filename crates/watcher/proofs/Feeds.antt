@@ -59,7 +59,7 @@ faultless : (i τ t : ℕ) (ts : List ℕ) → firstFault i τ (t ∷ ts) ≡ Fe
 unfolding firstFault
 faultless i τ t ts q = go (decLe ticks t) (decLt t τ) q
   where
-    go : (d : Dec (ticks ≤ t)) (e : Dec (t < τ)) → pick d (Refused Range) (pick e (Refused (Late i)) (firstFault (i + 1) (t + 1) ts)) ≡ Fed
+    go : (d : Dec (ticks ≤ t)) (e : Dec (t < τ)) → pick d (Refused (Range i)) (pick e (Refused (Late i)) (firstFault (i + 1) (t + 1) ts)) ≡ Fed
         → Faultless i τ t ts
     go (yes h) e q = let z : _≡_ {A = ℕ} 0 1 = cc in absurd (omega arith)
     go (no h) (yes l) q = let z : _≡_ {A = ℕ} 0 1 = cc in absurd (omega arith)
@@ -75,7 +75,7 @@ module _ (ts : List ℕ) (i τ : ℕ) where
     here : drop i ts ≡ getD ts i 0 ∷ drop (i + 1) ts
     here = rw (add-one i, drop-cons ts i 0 h)
 
-    pub fault-range : ticks ≤ getD ts i 0 → firstFault i τ (drop i ts) ≡ Refused Range
+    pub fault-range : ticks ≤ getD ts i 0 → firstFault i τ (drop i ts) ≡ Refused (Range i)
     unfolding firstFault
     fault-range k = rw here (pick-yes (decLe ticks (getD ts i 0)) _ _ k)
 

@@ -53,7 +53,7 @@ pub record IsTicked (s s′ : List ℕ) (t w a : ℕ) : Type 0 where
 
 -- a tick is refused if it is over the limit; else if the state is not in form; else if it is below the next allowed
 pub data TickRefused (s : List ℕ) (t : ℕ) (r : Refusal) : Type 0 where
-  over : ticks ≤ t → r ≡ Range → TickRefused s t r
+  over : ticks ≤ t → r ≡ Range 0 → TickRefused s t r
   broken : t < ticks → (InForm s → ⊥) → r ≡ State 0 → TickRefused s t r
   below : t < ticks → (f : InForm s) → t < f .next → r ≡ Late 0 → TickRefused s t r
 

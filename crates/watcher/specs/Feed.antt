@@ -25,10 +25,10 @@ pub data AllTicked : List ℕ → List Tick → List ℕ → List ℕ → Type 0
   none : {s : List ℕ} → AllTicked s [] [] s
   more : {s m s′ l : List ℕ} {h : List Tick} (t w a : ℕ) → IsTicked s m t w a → AllTicked m h l s′ → AllTicked s ((t, w) ∷ h) (a ∷ l) s′
 
--- the first tick that is over the limit, or below the next allowed by its index; the first of all has the index i
+-- the first tick that is over the limit or below the next allowed, by its index; the first of all has the index i
 unfoldable pub firstFault : ℕ → ℕ → List ℕ → Feeding
 firstFault i next [] = Fed
-firstFault i next (t ∷ ts) = pick (decLe ticks t) (Refused Range) (pick (decLt t next) (Refused (Late i)) (firstFault (i + 1) (t + 1) ts))
+firstFault i next (t ∷ ts) = pick (decLe ticks t) (Refused (Range i)) (pick (decLt t next) (Refused (Late i)) (firstFault (i + 1) (t + 1) ts))
 
 -- fed: the ticks were taken one after the other, and the answers beyond theirs are kept
 pub record IsFed (s ts ws old s′ new : List ℕ) : Type 0 where

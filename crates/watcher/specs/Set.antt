@@ -45,7 +45,7 @@ pub record IsSetTicked (count : ℕ) (s old : List ℕ) (t w : ℕ) (s′ new : 
 pub data SetRefused (count : ℕ) (s old : List ℕ) (t : ℕ) (r : Refusal) : Type 0 where
   many : (Few count → ⊥) → r ≡ Count → SetRefused count s old t r
   short : Few count → length old < count → r ≡ Room count → SetRefused count s old t r
-  over : Few count → count ≤ length old → ticks ≤ t → r ≡ Range → SetRefused count s old t r
+  over : Few count → count ≤ length old → ticks ≤ t → r ≡ Range 0 → SetRefused count s old t r
   fault : Few count → count ≤ length old → t < ticks → SetFault count s t r → SetRefused count s old t r
 
 -- the promise of a set's tick: the states s and the answers as they were, then as they are

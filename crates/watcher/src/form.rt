@@ -1,5 +1,7 @@
 // Whether a state is in form, and how many words it has.
 use body::Entry;
+use rules::LAST_TICK;
+use rules::MOST_ENTRIES;
 use rules::Op;
 ghost use mathlib.Core.Path.{_≡_};
 ghost use Prim.Native.Nat.{_+_, _<_};
@@ -18,14 +20,14 @@ pub(crate) fn extent(state: &[u64]) -> usize
     if count < 1 {
         return 0;
     }
-    if 63 < count {
+    if (MOST_ENTRIES as u64) < count {
         return 0;
     }
     let n = count as usize;
     if state.len() < 2 + n {
         return 0;
     }
-    if 4294967296 < state[1] {
+    if LAST_TICK + 1 < state[1] {
         return 0;
     }
     judged_end(state, n)

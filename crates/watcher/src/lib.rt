@@ -6,6 +6,8 @@ mod walk;
 use body::BodyCheck;
 use body::Entry;
 use refusal::Refusal;
+use rules::ENTRY_BYTES;
+use rules::LAST_TICK;
 use rules::Op;
 ghost use mathlib.Core.Path.{_≡_};
 ghost use Prim.Native.Nat.{_+_, _*_, _≤_, _<_};
@@ -50,7 +52,7 @@ pub fn room(body: &[u8]) -> Needed
 {
     match body::check_body(body) {
         BodyCheck::Refused(r) => Needed::Refused(r),
-        BodyCheck::Sound => Needed::Words(2 + body.len() / 5 + cells_needed(body)),
+        BodyCheck::Sound => Needed::Words(2 + body.len() / ENTRY_BYTES + cells_needed(body)),
     }
 }
 
@@ -61,7 +63,7 @@ pub fn open(body: &[u8], state: &mut [u64]) -> Opening
     match body::check_body(body) {
         BodyCheck::Refused(r) => Opening::Refused(r),
         BodyCheck::Sound => {
-            let n = body.len() / 5;
+            let n = body.len() / ENTRY_BYTES;
             let cells = cells_needed(body);
             let needed = 2 + n + cells;
             if state.len() < needed {
@@ -77,8 +79,8 @@ pub fn open(body: &[u8], state: &mut [u64]) -> Opening
 pub fn tick(state: &mut [u64], t: u64, events: u32) -> Ticking
     ensures { λ r. ⌜ TickAnswers (now (state .entry)) (now (state .exit)) t events r ⌝ }
 {
-    if 4294967295 < t {
-        return Ticking::Refused(Refusal::Range);
+    if LAST_TICK < t {
+        return Ticking::Refused(Refusal::Range(0));
     }
     if form::extent(state) == 0 {
         return Ticking::Refused(Refusal::State(0));
@@ -127,8 +129,8 @@ fn first_fault(ticks: &[u64], next: u64) -> Feeding
     let mut i: usize = 0;
     while i < ticks.len() {
         let t = ticks[i];
-        if 4294967295 < t {
-            return Feeding::Refused(Refusal::Range);
+        if LAST_TICK < t {
+            return Feeding::Refused(Refusal::Range(i));
         }
         if t < allowed {
             return Feeding::Refused(Refusal::Late(i));
@@ -209,7 +211,7 @@ fn cells_needed(body: &[u8]) -> usize
     requires { ⌜ checkOf argumentBytes (now body) ≡ BodyCheck.Sound ⌝ }
     ensures { λ r. ⌜ (r ≡ cellsNeeded (now (body .entry))) × (r ≤ 7938) ⌝ }
 {
-    let n = body.len() / 5;
+    let n = body.len() / ENTRY_BYTES;
     let mut possible = [0u8; 32];
     let mut d: usize = 0;
     let mut words: usize = 0;

@@ -1,8 +1,12 @@
 // Several watchers in one slice: each state is a part of it, beginning where the previous ends.
 use crate::Needed;
 use crate::Opening;
+use file::CONTENT_BYTES;
 use file::FileCheck;
 use refusal::Refusal;
+use rules::ENTRY_BYTES;
+use rules::LAST_TICK;
+use rules::MOST_PATTERNS;
 ghost use mathlib.Core.Path.{_≡_};
 ghost use Prim.Native.Nat.{_+_, _<_};
 ghost use Rattle.watcher.specs.Set.{SetAnswers};
@@ -49,15 +53,15 @@ pub fn tick(states: &mut [u64], count: u64, t: u64, events: u32, answers: &mut [
     if count < 1 {
         return SetTicking::Refused(Refusal::Count);
     }
-    if 16 < count {
+    if (MOST_PATTERNS as u64) < count {
         return SetTicking::Refused(Refusal::Count);
     }
     let n = count as usize;
     if answers.len() < n {
         return SetTicking::Refused(Refusal::Room(n));
     }
-    if 4294967295 < t {
-        return SetTicking::Refused(Refusal::Range);
+    if LAST_TICK < t {
+        return SetTicking::Refused(Refusal::Range(0));
     }
     let mut ends = [0usize; 17];
     match judge(states, n, t, &mut ends) {
@@ -76,11 +80,11 @@ fn room_summed(file: &[u8]) -> usize
 {
     let count = wide(file[0]);
     let mut words: usize = 0;
-    let mut at = 1 + 12 * count;
+    let mut at = 1 + CONTENT_BYTES * count;
     let mut i: usize = 0;
     while i < count {
-        let n = wide(file[12 * i + 11]);
-        let end = at + 5 * n;
+        let n = wide(file[CONTENT_BYTES * i + 11]);
+        let end = at + ENTRY_BYTES * n;
         words += 2 + n + crate::cells_needed(&file[at..end]);
         at = end;
         i += 1;
@@ -94,12 +98,12 @@ fn open_all(file: &[u8], states: &mut [u64])
     ensures { λ _. ⌜ IsSetOpened (now (file .entry)) (now (states .entry)) (now (states .exit)) ⌝ }
 {
     let count = wide(file[0]);
-    let mut at = 1 + 12 * count;
+    let mut at = 1 + CONTENT_BYTES * count;
     let mut from: usize = 0;
     let mut i: usize = 0;
     while i < count {
-        let n = wide(file[12 * i + 11]);
-        let end = at + 5 * n;
+        let n = wide(file[CONTENT_BYTES * i + 11]);
+        let end = at + ENTRY_BYTES * n;
         let cells = crate::cells_needed(&file[at..end]);
         let to = from + 2 + n + cells;
         crate::write_opened(&file[at..end], &mut states[from..to], n, cells);

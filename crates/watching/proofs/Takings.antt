@@ -6,24 +6,8 @@ use lib.ListN.{length, take}
 use borrow.Author.Tests.{eq-eqb, ne-eqb}
 use native.Mathlib.Omega.{arith}
 use Rattle.refusal.specs.declared.Refusal.{Refusal}
-use Rattle.refusal.specs.declared.Refusal.the-variants.{
-  Long,
-  Syntax,
-  Many,
-  Count,
-  Entry,
-  Size,
-  Body,
-  Room,
-  State,
-  Range,
-  Late,
-  Record,
-  Full,
-  Line,
-  Absent,
-}
 use Rattle.refusal.specs.Table.{numberOf}
+use Rattle.refusal.proofs.Theorem.{numbered}
 use Rattle.tally.specs.declared.Tally.{Tally}
 use Rattle.tally.specs.declared.Adding.{Adding}
 use Rattle.tally.specs.declared.Adding.the-variants as Adds
@@ -64,21 +48,7 @@ use Rattle.watching.specs.Answer.LineTaken.{begun, unbegun, window, noth
 use Rattle.watching.proofs.Writings.{nothing-written, window-written, tally-written, refused-written}
 
 pub number-fits : (r : Refusal) → numberOf r < 2 ^ 64
-number-fits Long = omega arith
-number-fits (Syntax n) = omega arith
-number-fits Many = omega arith
-number-fits Count = omega arith
-number-fits (Entry n) = omega arith
-number-fits Size = omega arith
-number-fits (Body n m) = omega arith
-number-fits (Room n) = omega arith
-number-fits (State n) = omega arith
-number-fits Range = omega arith
-number-fits (Late n) = omega arith
-number-fits Record = omega arith
-number-fits Full = omega arith
-number-fits Line = omega arith
-number-fits Absent = omega arith
+number-fits r = omega (arith, numbered r)
 
 -- a line that is read and then refused as a tick leaves the state
 pub unticked-by : (l s s′ : List ℕ) (t w : ℕ) (r : Refusal) → LineReadOf l (Lines.Tick t w) → TickAnswers s s′ t w (Ticks.Refused r)

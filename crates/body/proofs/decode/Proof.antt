@@ -1,4 +1,5 @@
 -- `body::decode` meets its contract: it makes the tests of `entryOf` in their order. Assumes nothing.
+use Prim.Native.Nat.{_^_}
 use native.Mathlib.Omega.{arith}
 use borrow.Author.Tests.{lt-ltb, le-ltb, eq-eqb, ne-eqb}
 use Rattle.body.specs.Entry.{entryOf}
@@ -38,7 +39,7 @@ returns-5 c =
       ne-eqb _ _ (c .before .before .before .if1 .left),
       le-ltb _ _ (c .before .before .if3 .left),
       eq-eqb _ _ (c .before .if5 .taken),
-      lt-ltb _ _ (c .if6 .taken),
+      lt-ltb (c .before .before .before .before .args .argument) (2 ^ 32) (omega (arith, c .if6 .taken)),
     )
 
 returns-6 : tie.Need-returns-6
@@ -48,7 +49,7 @@ returns-6 c =
       ne-eqb _ _ (c .before .before .before .if1 .left),
       le-ltb _ _ (c .before .before .if3 .left),
       eq-eqb _ _ (c .before .if5 .taken),
-      le-ltb _ _ (c .if6 .left),
+      le-ltb (c .before .before .before .before .args .argument) (2 ^ 32) (omega (arith, c .if6 .left)),
     )
 
 returns-7 : tie.Need-returns-7

@@ -1,6 +1,6 @@
 -- `mws::mws_file_lookup` meets its contract: the finding's place, length and word. Assumes nothing.
 use mathlib.Core.Path.{refl, sym, _∙_}
-use Rattle.refusal.proofs.Packs.{packed-small}
+use Rattle.refusal.proofs.Theorem.{unpacks}
 use native.Mathlib.Omega.{arith}
 use borrow.Author.Needs.{needs}
 use Rattle.mws.proofs.mws_file_lookup.Statement.{statement}
@@ -26,7 +26,7 @@ packed-requires c κs = search needs
 
 add-result : tie.Need-add-result
 add-result c =
-    omega (arith, c .before .file-bits2 .ensures .1, c .packed .ensures, packed-small (c .before .before .before .whose2 .given .0 .1 .0))
+    omega (arith, c .before .file-bits2 .ensures .1, c .packed .ensures, unpacks (c .before .before .before .whose2 .given .0 .1 .0) .free)
 
 enum-known-r : tie.Need-enum-known-r
 enum-known-r c = search needs
