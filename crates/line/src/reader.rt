@@ -1,5 +1,5 @@
 // Reading: the number at the front of a line, and the letters after its space.
-use rules::LAST_TICK;
+use rules::TICKS;
 ghost use mathlib.Core.Path.{_≡_};
 ghost use Prim.Native.Nat.{_+_, _*_, _≤_, min};
 ghost use native.Mathlib.Decide.{decLt};
@@ -11,9 +11,6 @@ ghost use Rattle.line.specs.Told.{NumberOf};
 
 // The number of event types.
 const LETTERS: u8 = 32;
-
-// What any larger number is taken for: one more than the largest tick.
-const OVER: u64 = LAST_TICK + 1;
 
 // Where a number ends and its value, or that there is none.
 pub(crate) enum Decimal {
@@ -52,17 +49,17 @@ pub(crate) fn read_number(line: &[u8]) -> Decimal
 fn grown(n: u64, d: u8) -> u64
     ensures { λ r. ⌜ r ≡ pick (decLt n ticks) (n * 10 + d) n ⌝ }
 {
-    if n < OVER {
+    if n < TICKS {
         return n * 10 + d as u64;
     }
     n
 }
 
-// The number, or OVER for any larger one.
+// The number, or `TICKS` for any larger one.
 fn capped(n: u64) -> u64
     ensures { λ r. ⌜ r ≡ min n ticks ⌝ }
 {
-    if n < OVER { n } else { OVER }
+    if n < TICKS { n } else { TICKS }
 }
 
 // The word of the events whose letters stand from `at` to the line's end, 0 where they are not letters in type order.

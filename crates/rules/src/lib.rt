@@ -10,6 +10,9 @@ pub const LETTERS: u64 = 32;
 // The last tick, and the greatest number of a restriction.
 pub const LAST_TICK: u64 = 0xffff_ffff;
 
+// How many ticks there are, and the greatest next tick of a state.
+pub const TICKS: u64 = LAST_TICK + 1;
+
 // The bytes of an entry: an op, and an argument of four bytes.
 pub const ENTRY_BYTES: usize = 5;
 

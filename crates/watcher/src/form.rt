@@ -1,8 +1,8 @@
 // Whether a state is in form, and how many words it has.
 use body::Entry;
-use rules::LAST_TICK;
 use rules::MOST_ENTRIES;
 use rules::Op;
+use rules::TICKS;
 ghost use mathlib.Core.Path.{_≡_};
 ghost use Prim.Native.Nat.{_+_, _<_};
 ghost use lib.ListN.{length};
@@ -27,7 +27,7 @@ pub(crate) fn extent(state: &[u64]) -> usize
     if state.len() < 2 + n {
         return 0;
     }
-    if LAST_TICK + 1 < state[1] {
+    if TICKS < state[1] {
         return 0;
     }
     judged_end(state, n)
