@@ -1,18 +1,21 @@
 -- Pattern files: what is accepted is exactly what the writer would write, in one way; a lookup finds each name where it stands, and only bodies.
 -- A file's parts are read from it, and its names rise strictly. Assumes nothing.
-use Prim.Native.Nat.{ℕ, _<_}
+use Prim.Native.Nat.{ℕ, _*_, _<_}
 use mathlib.Core.Path.{_≡_, refl, sym, ap, _∙_}
 use mathlib.Core.List.{List}
-use lib.ListN.{length, getD}
+use lib.ListN.{length, getD, take, drop}
+use lib.Seq.{drop-drop}
 use Rattle.file.specs.declared.FileCheck.the-variants.{Sound}
 use Rattle.file.specs.declared.Place.the-variants.{At, Nowhere}
-use Rattle.file.specs.Contents.{bodyBytes, bodiesAt, nameOf}
+use Rattle.file.specs.declared.Finding.{Finding}
+use Rattle.file.specs.Contents.{bodyBytes, contentsBytes, bodiesAt, nameOf, fileOf, total, bodyOf}
 use Rattle.file.specs.Check.{checkOf}
-use Rattle.file.specs.Lookup.{placed}
+use Rattle.file.specs.Lookup.{placed, partOf}
 use Rattle.file.specs.Claim.{PartsOf, AcceptedExactly, OneWay, OneName, WrittenAccepted, FoundBody, FoundWithin, FoundNamed}
-use Rattle.file.specs.Claim.{bodyAt, Lacks, FoundInSite, FoundInFleet, AbsentFromBoth}
+use Rattle.file.specs.Claim.{bodyAt, Lacks, FoundInSite, FoundInFleet, AbsentFromBoth, ReadsBack, FileReadsBack, WrittenReadsBack}
 use Rattle.file.proofs.Checks.{parts-sound}
-use Rattle.file.proofs.Files.{near, written-sound, accepted-parts, parts-read}
+use Rattle.file.proofs.Writes.{wrote-parts}
+use Rattle.file.proofs.Files.{near, bodies-after, written-sound, accepted-parts, parts-read}
 use Rattle.file.proofs.Order.{names-differ, name-once, seek-nowhere, seek-there}
 use Rattle.file.proofs.Finds.{finding-by}
 use Rattle.file.proofs.Found.{finding-found}
@@ -74,3 +77,32 @@ pub absent-from-both : AbsentFromBoth
 absent-from-both site fleet name names counts bodies names′ counts′ bodies′ k k′ l l′ =
     sym (finding-by site fleet name (parts-accepted site names counts bodies k) (parts-accepted fleet names′ counts′ bodies′ k′) _ _
     (placed-nowhere site names counts bodies k name l) (placed-nowhere fleet names′ counts′ bodies′ k′ name l′))
+
+-- the part of a file where a body stands is the body that was given
+body-part : (f names counts bodies : List ℕ) → PartsOf f names counts bodies → (i : ℕ)
+    → take (bodyBytes (getD counts i 0)) (drop (bodyAt counts i) f) ≡ bodyOf counts bodies i
+body-part f names counts bodies k i =
+    let s = parts-sound names counts bodies (k .sound) in
+    let file : List ℕ = fileOf names counts bodies in
+    let from : drop (bodiesAt (length counts)) file ≡ bodies =
+    sym (drop-drop (contentsBytes * length counts) 1 file) ∙ bodies-after names counts bodies s in
+    let at : drop (bodyAt counts i) file ≡ drop (total (take i counts)) bodies =
+    sym (drop-drop (total (take i counts)) (bodiesAt (length counts)) file) ∙ ap (drop (total (take i counts))) from in
+    ap (take (bodyBytes (getD counts i 0))) (ap (drop (bodyAt counts i)) (k .same) ∙ at)
+
+parts-read-back : (f names counts bodies : List ℕ) → PartsOf f names counts bodies → ReadsBack f names counts bodies
+parts-read-back f names counts bodies k = record {
+  in-site = λ fleet i q h.
+      ap (λ (a : Finding). partOf a f fleet) (found-in-site f fleet names counts bodies k q i h) ∙ body-part f names counts bodies k i;
+  in-fleet = λ site names′ counts′ bodies′ i k′ h l.
+      ap (λ (a : Finding). partOf a site f) (found-in-fleet site f names′ counts′ bodies′ names counts bodies k′ k i h l)
+      ∙ body-part f names counts bodies k i;
+}
+
+pub file-reads-back : FileReadsBack
+file-reads-back names counts bodies p =
+    parts-read-back (fileOf names counts bodies) names counts bodies record { sound = p; same = refl }
+
+pub written-reads-back : WrittenReadsBack
+written-reads-back names counts bodies old new n w =
+    parts-read-back (take n new) names counts bodies (wrote-parts names counts bodies old new n w)

@@ -14,8 +14,10 @@ use Rattle.file.specs.declared.FileCheck.the-variants.{Sound}
 use Rattle.file.specs.declared.Whose.{Whose}
 use Rattle.file.specs.declared.Whose.the-variants.{Site, Fleet}
 use Rattle.file.specs.declared.Finding.the-variants.{Found, Refused}
-use Rattle.file.specs.Contents.{named, bodyBytes, nameBytes, bodiesAt, nameOf, fileOf, total}
+use Rattle.file.specs.declared.Writing.the-variants.{Written}
+use Rattle.file.specs.Contents.{named, bodyBytes, nameBytes, bodiesAt, nameOf, fileOf, total, bodyOf}
 use Rattle.file.specs.Check.{partsCheck, checkOf}
+use Rattle.file.specs.Write.{Wrote}
 use Rattle.file.specs.Lookup.{findingOf, fileFrom, partOf}
 
 -- the parts of a file that the writer would write: its names, numbers of entries and bodies
@@ -98,6 +100,24 @@ abbrev pub AbsentFromBoth : Type 0
 AbsentFromBoth =
     (site fleet name names counts bodies names′ counts′ bodies′ : List ℕ) → PartsOf site names counts bodies → PartsOf fleet names′ counts′ bodies′
     → Lacks names counts name → Lacks names′ counts′ name → findingOf site fleet name ≡ Refused Absent
+
+-- in the file f, used as site file or as fleet file, a lookup of each name returns the body that belongs to it, byte for byte
+pub record ReadsBack (f names counts bodies : List ℕ) : Type 0 where
+  pub in-site : (fleet : List ℕ) (i : ℕ) → checkOf fleet ≡ Sound → i < length counts
+      → partOf (findingOf f fleet (nameOf names i)) f fleet ≡ bodyOf counts bodies i
+  pub in-fleet : (site names′ counts′ bodies′ : List ℕ) (i : ℕ) → PartsOf site names′ counts′ bodies′ → i < length counts
+      → Lacks names′ counts′ (nameOf names i)
+      → partOf (findingOf site f (nameOf names i)) site f ≡ bodyOf counts bodies i
+
+-- the file of accepted names, numbers and bodies reads back
+abbrev pub FileReadsBack : Type 0
+FileReadsBack =
+    (names counts bodies : List ℕ) → partsCheck names counts bodies ≡ Sound → ReadsBack (fileOf names counts bodies) names counts bodies
+
+-- whatever the writer wrote, the n bytes it wrote read back
+abbrev pub WrittenReadsBack : Type 0
+WrittenReadsBack =
+    (names counts bodies old new : List ℕ) (n : ℕ) → Wrote names counts bodies old new (Written n) → ReadsBack (take n new) names counts bodies
 
 -- the smallest file, of the name W and the pattern `A`, is accepted
 abbrev pub SmallestFile : Type 0

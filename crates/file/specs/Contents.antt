@@ -3,7 +3,7 @@ use Prim.Native.Nat.{ℕ, _+_, _*_}
 use mathlib.Core.Bool.{Bool, true, false, cond}
 use mathlib.Core.List.{List, [], _∷_, _++_}
 use lib.Dec.{ltb, leb, eqb}
-use lib.ListN.{length, take, drop}
+use lib.ListN.{length, getD, take, drop}
 use Rattle.rules.specs.Limits.{argumentBytes}
 use Rattle.body.specs.Bytes.{bytesOf}
 
@@ -69,3 +69,7 @@ fileOf names counts bodies = length counts ∷ (contents names counts (bodiesAt 
 unfoldable pub total : List ℕ → ℕ
 total [] = 0
 total (n ∷ counts) = bodyBytes n + total counts
+
+-- body number i of bodies end to end
+abbrev pub bodyOf : List ℕ → List ℕ → ℕ → List ℕ
+bodyOf counts bodies i = take (bodyBytes (getD counts i 0)) (drop (total (take i counts)) bodies)
