@@ -19,6 +19,7 @@ use Rattle.file.specs.declared.FileCheck.the-variants.{Sound, Refused}
 use Rattle.file.specs.Contents.{named, below, bodyBytes, nameBytes, contentsBytes, bodiesAt, total}
 use Rattle.file.specs.Check.{entryKept, brokenEntry, brokenBody, onEntry, bodiesCheck, partsCheck}
 use Rattle.file.specs.Check.{countsIn, contentKept, brokenContent, restCheck, checkOf}
+use Rattle.file.specs.Claim.{EntryRight}
 
 -- an entry refuses, or what follows is asked
 pub entry-refused : (o : Option ℕ) (r : Refusal) (rest : FileCheck) → onEntry o Sound ≡ Refused r → Refused r ≡ onEntry o rest
@@ -177,24 +178,27 @@ unfolding checkOf
 check-count [] h = absurd (omega arith)
 check-count (x ∷ f) h = refl
 
--- what an entry that is kept says
-pub record EntryKept (before name : List ℕ) (n : ℕ) : Type 0 where
-  pub well : named name ≡ true
-  pub rises : below before name ≡ true
-  pub least : 1 ≤ n
-  pub most : n ≤ mostEntries
+pub check-rest : (f : List ℕ) → checkOf f ≡ restCheck (getD f 0 0) (drop 1 f)
+unfolding checkOf
+check-rest [] = rest-none 0 [] (omega arith)
+check-rest (x ∷ f) = refl
 
-pub entry-kept : (before name : List ℕ) (n : ℕ) → entryKept before name n ≡ true → EntryKept before name n
+-- what an entry that is kept says, and the other way
+pub entry-kept : (before name : List ℕ) (n : ℕ) → entryKept before name n ≡ true → EntryRight before name n
 unfolding entryKept
 entry-kept before name n p = go (named name) (below before name) (leb 1 n) (leb n mostEntries) refl refl refl refl p
   where
     go : (t₁ t₂ t₃ t₄ : Bool) → named name ≡ t₁ → below before name ≡ t₂ → leb 1 n ≡ t₃ → leb n mostEntries ≡ t₄
-        → cond t₁ (cond t₂ (cond t₃ t₄ false) false) false ≡ true → EntryKept before name n
+        → cond t₁ (cond t₂ (cond t₃ t₄ false) false) false ≡ true → EntryRight before name n
     go true true true true p q r s h = record { well = p; rises = q; least = leb-true 1 n r; most = leb-true n mostEntries s }
     go true true true false p q r s h = let z : _≡_ {A = ℕ} 0 1 = cc in absurd (omega arith)
     go true true false t₄ p q r s h = let z : _≡_ {A = ℕ} 0 1 = cc in absurd (omega arith)
     go true false t₃ t₄ p q r s h = let z : _≡_ {A = ℕ} 0 1 = cc in absurd (omega arith)
     go false t₂ t₃ t₄ p q r s h = let z : _≡_ {A = ℕ} 0 1 = cc in absurd (omega arith)
+
+pub right-kept : (before name : List ℕ) (n : ℕ) → EntryRight before name n → entryKept before name n ≡ true
+unfolding entryKept
+right-kept before name n k = rw (k .well, k .rises, le-leb 1 n (k .least), le-leb n mostEntries (k .most))
 
 cond-none : (t : Bool) (o : Option ℕ) (i : ℕ) → cond t o (some i) ≡ none → (t ≡ true) × (o ≡ none)
 cond-none true o i p = (refl, p)

@@ -6,5 +6,6 @@ pub mod Finds
 pub mod Files
 pub mod Order
 pub mod Found
+pub mod Judges
 pub mod Smallest
 pub mod Theorem

@@ -1,24 +1,32 @@
 -- Pattern files: what is accepted is exactly what the writer would write, in one way; a lookup finds each name where it stands, and only bodies.
 -- A file's parts are read from it, and its names rise strictly. Assumes nothing.
 use Prim.Native.Nat.{ℕ, _*_, _<_}
+use mathlib.Core.Logic.{_↔_}
 use mathlib.Core.Path.{_≡_, refl, sym, ap, _∙_}
-use mathlib.Core.List.{List}
-use lib.ListN.{length, getD, take, drop}
+use mathlib.Core.List.{List, []}
+use native.Mathlib.Omega.{arith}
+use lib.Dec.{leb, eqb}
+use lib.ListN.{length, getD, take, drop, length-drop}
 use lib.Seq.{drop-drop}
+use borrow.Author.Tests.{le-leb, eq-eqb, leb-true, eqb-true}
+use Rattle.rules.specs.Limits.{mostPatterns}
+use Rattle.file.specs.declared.FileCheck.{FileCheck}
 use Rattle.file.specs.declared.FileCheck.the-variants.{Sound}
 use Rattle.file.specs.declared.Place.the-variants.{At, Nowhere}
 use Rattle.file.specs.declared.Finding.{Finding}
-use Rattle.file.specs.Contents.{bodyBytes, contentsBytes, bodiesAt, nameOf, fileOf, total, bodyOf}
-use Rattle.file.specs.Check.{checkOf}
+use Rattle.file.specs.Contents.{bodyBytes, nameBytes, contentsBytes, bodiesAt, nameOf, fileOf, total, bodyOf}
+use Rattle.file.specs.Check.{brokenEntry, partsCheck, brokenContent, restCheck, checkOf}
 use Rattle.file.specs.Lookup.{placed, partOf}
 use Rattle.file.specs.Claim.{PartsOf, AcceptedExactly, OneWay, OneName, WrittenAccepted, FoundBody, FoundWithin, FoundNamed}
 use Rattle.file.specs.Claim.{bodyAt, Lacks, FoundInSite, FoundInFleet, AbsentFromBoth, ReadsBack, FileReadsBack, WrittenReadsBack}
-use Rattle.file.proofs.Checks.{parts-sound}
+use Rattle.file.specs.Claim.{Judged, PartsCounted, PartRight, PartsJudged, FileCounted, ContentRight, countsOf, bodiesOf, FileJudged}
+use Rattle.file.proofs.Checks.{parts-sound, check-rest}
 use Rattle.file.proofs.Writes.{wrote-parts}
 use Rattle.file.proofs.Files.{near, bodies-after, written-sound, accepted-parts, parts-read}
 use Rattle.file.proofs.Order.{names-differ, name-once, seek-nowhere, seek-there}
 use Rattle.file.proofs.Finds.{finding-by}
 use Rattle.file.proofs.Found.{finding-found}
+use Rattle.file.proofs.Judges.{judged-exactly, parts-found, contents-found}
 
 pub written-accepted : WrittenAccepted
 written-accepted = written-sound
@@ -106,3 +114,44 @@ file-reads-back names counts bodies p =
 pub written-reads-back : WrittenReadsBack
 written-reads-back names counts bodies old new n w =
     parts-read-back (take n new) names counts bodies (wrote-parts names counts bodies old new n w)
+
+pub parts-judged : PartsJudged
+unfolding partsCheck
+parts-judged names counts bodies =
+    judged-exactly (PartsCounted names counts) (PartRight names counts) counts bodies
+    (leb 1 (length counts)) (leb (length counts) mostPatterns) (eqb (length names) (nameBytes * length counts)) (brokenEntry [] names counts 0)
+    (λ p q r. record {
+      least = leb-true 1 (length counts) p;
+      most = leb-true (length counts) mostPatterns q;
+      named = eqb-true (length names) (nameBytes * length counts) r;
+    })
+    (λ c. (
+      le-leb 1 (length counts) (c .least),
+      le-leb (length counts) mostPatterns (c .most),
+      eq-eqb (length names) (nameBytes * length counts) (c .named),
+    ))
+    (λ c. parts-found names counts)
+    (λ i k. (k .least, k .most))
+
+rest-judged : (f : List ℕ) (r : FileCheck)
+    → restCheck (getD f 0 0) (drop 1 f) ≡ r ↔ Judged (FileCounted f) (ContentRight f) (countsOf f) (bodiesOf f) r
+unfolding restCheck
+rest-judged f =
+    let n : ℕ = getD f 0 0 in
+    judged-exactly (FileCounted f) (ContentRight f) (countsOf f) (bodiesOf f)
+    (leb 1 n) (leb n mostPatterns) (leb (contentsBytes * n) (length (drop 1 f))) (brokenContent [] (drop 1 f) n (bodiesAt n) 0)
+    (λ p q r. record {
+      least = leb-true 1 n p;
+      most = leb-true n mostPatterns q;
+      held = omega (arith, leb-true 1 n p, leb-true (contentsBytes * n) (length (drop 1 f)) r, length-drop 1 f);
+    })
+    (λ c. (
+      le-leb 1 n (c .least),
+      le-leb n mostPatterns (c .most),
+      le-leb (contentsBytes * n) (length (drop 1 f)) (omega (arith, c .held, length-drop 1 f)),
+    ))
+    (contents-found f)
+    (λ i k. (k .entry .least, k .entry .most))
+
+pub file-judged : FileJudged
+file-judged f r = rw (check-rest f) (rest-judged f r)
