@@ -7,5 +7,4 @@ pub mod Files
 pub mod Order
 pub mod Found
 pub mod Judges
-pub mod Smallest
 pub mod Theorem

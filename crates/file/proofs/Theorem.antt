@@ -10,22 +10,29 @@ use lib.ListN.{length, getD, take, drop, length-drop}
 use lib.Seq.{drop-drop}
 use borrow.Author.Tests.{le-leb, eq-eqb, leb-true, eqb-true}
 use Rattle.rules.specs.Limits.{mostPatterns}
+use Rattle.body.specs.Bytes.{valueAt}
+use Rattle.body.specs.Entry.{entryOf, entryAt, entriesBy, entries}
+use Rattle.body.specs.Check.{depthOf, scan}
 use Rattle.file.specs.declared.FileCheck.{FileCheck}
 use Rattle.file.specs.declared.FileCheck.the-variants.{Sound}
+use Rattle.file.specs.declared.Whose.the-variants.{Site, Fleet}
 use Rattle.file.specs.declared.Place.the-variants.{At, Nowhere}
 use Rattle.file.specs.declared.Finding.{Finding}
-use Rattle.file.specs.Contents.{bodyBytes, nameBytes, contentsBytes, bodiesAt, nameOf, fileOf, total, bodyOf}
-use Rattle.file.specs.Check.{brokenEntry, partsCheck, brokenContent, restCheck, checkOf}
-use Rattle.file.specs.Lookup.{placed, partOf}
+use Rattle.file.specs.Contents.{nameByte, spaces, padded, named, below, bodyBytes, nameBytes, contentsBytes, bodiesAt}
+use Rattle.file.specs.Contents.{nameOf, fileOf, total, bodyOf}
+use Rattle.file.specs.Check.{entryKept, brokenEntry, brokenBody, bodiesCheck, partsCheck, countsIn, contentKept, brokenContent, restCheck, checkOf}
+use Rattle.file.specs.Write.{writingOf}
+use Rattle.file.specs.Lookup.{placed, findingOf, partOf}
 use Rattle.file.specs.Claim.{PartsOf, AcceptedExactly, OneWay, OneName, WrittenAccepted, FoundBody, FoundWithin, FoundNamed}
-use Rattle.file.specs.Claim.{bodyAt, Lacks, FoundInSite, FoundInFleet, AbsentFromBoth, ReadsBack, FileReadsBack, WrittenReadsBack}
+use Rattle.file.specs.Claim.{bodyAt, Lacks, FoundInSite, FoundInFleet, AbsentFromBoth, BrokenExactly}
+use Rattle.file.specs.Claim.{ReadsBack, FileReadsBack, WrittenReadsBack, WriterRefuses, SmallestFile}
 use Rattle.file.specs.Claim.{Judged, PartsCounted, PartRight, PartsJudged, FileCounted, ContentRight, countsOf, bodiesOf, FileJudged}
 use Rattle.file.proofs.Checks.{parts-sound, check-rest}
-use Rattle.file.proofs.Writes.{wrote-parts}
+use Rattle.file.proofs.Writes.{wrote-parts, refused-by}
 use Rattle.file.proofs.Files.{near, bodies-after, written-sound, accepted-parts, parts-read}
 use Rattle.file.proofs.Order.{names-differ, name-once, seek-nowhere, seek-there}
-use Rattle.file.proofs.Finds.{finding-by}
-use Rattle.file.proofs.Found.{finding-found}
+use Rattle.file.proofs.Finds.{finding-site-broken, finding-fleet-broken, finding-by}
+use Rattle.file.proofs.Found.{finding-found, broken-by}
 use Rattle.file.proofs.Judges.{judged-exactly, parts-found, contents-found}
 
 pub written-accepted : WrittenAccepted
@@ -82,9 +89,33 @@ found-in-fleet site fleet names counts bodies names′ counts′ bodies′ k k�
     (placed-nowhere site names counts bodies k (nameOf names′ i) l) (placed-there fleet names′ counts′ bodies′ k′ i h))
 
 pub absent-from-both : AbsentFromBoth
-absent-from-both site fleet name names counts bodies names′ counts′ bodies′ k k′ l l′ =
-    sym (finding-by site fleet name (parts-accepted site names counts bodies k) (parts-accepted fleet names′ counts′ bodies′ k′) _ _
-    (placed-nowhere site names counts bodies k name l) (placed-nowhere fleet names′ counts′ bodies′ k′ name l′))
+absent-from-both site fleet name names counts bodies names′ counts′ bodies′ k k′ = (
+  λ p.
+      let in-site : Lacks names counts name =
+      λ j h e.
+      let f = found-in-site site fleet names counts bodies k (parts-accepted fleet names′ counts′ bodies′ k′) j h in
+      let g = ap (findingOf site fleet) e in
+      let z : _≡_ {A = ℕ} 0 1 = cc in omega arith in (
+        in-site,
+        λ j h e.
+            let f = found-in-fleet site fleet names counts bodies names′ counts′ bodies′ k k′ j h (λ i l q. in-site i l (q ∙ e)) in
+            let g = ap (findingOf site fleet) e in
+            let z : _≡_ {A = ℕ} 0 1 = cc in omega arith,
+      ),
+  λ l. sym (finding-by site fleet name (parts-accepted site names counts bodies k) (parts-accepted fleet names′ counts′ bodies′ k′) _ _
+      (placed-nowhere site names counts bodies k name (l .0)) (placed-nowhere fleet names′ counts′ bodies′ k′ name (l .1))),
+)
+
+pub broken-exactly : BrokenExactly
+unfolding findingOf
+broken-exactly site fleet name Site r = (
+  broken-by (checkOf site) (checkOf fleet) (placed site name) (placed fleet name) Site r,
+  λ p. sym (finding-site-broken site fleet name r p),
+)
+broken-exactly site fleet name Fleet r = (
+  broken-by (checkOf site) (checkOf fleet) (placed site name) (placed fleet name) Fleet r,
+  λ p. sym (finding-fleet-broken site fleet name (p .0) r (p .1)),
+)
 
 -- the part of a file where a body stands is the body that was given
 body-part : (f names counts bodies : List ℕ) → PartsOf f names counts bodies → (i : ℕ)
@@ -155,3 +186,13 @@ rest-judged f =
 
 pub file-judged : FileJudged
 file-judged f r = rw (check-rest f) (rest-judged f r)
+
+pub writer-refuses : WriterRefuses
+unfolding writingOf
+writer-refuses names counts bodies room r = refused-by (partsCheck names counts bodies) (length (fileOf names counts bodies)) room r
+
+-- the definitions compute
+pub smallest-file : SmallestFile
+unfolding checkOf restCheck brokenContent contentKept entryKept named padded spaces nameByte below valueAt
+    bodiesCheck countsIn total brokenBody scan entries entriesBy entryAt entryOf depthOf
+smallest-file = refl

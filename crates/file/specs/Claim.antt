@@ -1,12 +1,13 @@
 -- What is claimed of pattern files. Assumes nothing: these are definitions.
 use Prim.Native.Nat.{ℕ, zero, suc, _+_, _*_, _≤_, _<_}
 use mathlib.Core.Path.{_≡_}
-use mathlib.Core.Logic.{_↔_}
+use mathlib.Core.Logic.{_⊎_, _↔_}
 use mathlib.Core.Bool.{true}
 use mathlib.Core.List.{List, [], _∷_}
 use lib.ListN.{length, getD, take, drop}
 use Rattle.rules.specs.Limits.{argumentBytes, mostEntries, mostPatterns}
-use Rattle.refusal.specs.declared.Refusal.the-variants.{Count, Entry, Size, Body, Absent}
+use Rattle.refusal.specs.declared.Refusal.{Refusal}
+use Rattle.refusal.specs.declared.Refusal.the-variants.{Count, Entry, Size, Body, Room, Absent}
 use Rattle.body.specs.declared.BodyCheck.the-variants as Bodies
 use Rattle.body.specs.Bytes.{Bytes, valueAt}
 use Rattle.body.specs.Check.{checkOf as bodyCheck}
@@ -14,12 +15,12 @@ use Rattle.file.specs.declared.FileCheck.{FileCheck}
 use Rattle.file.specs.declared.FileCheck.the-variants.{Sound, Refused as Unsound}
 use Rattle.file.specs.declared.Whose.{Whose}
 use Rattle.file.specs.declared.Whose.the-variants.{Site, Fleet}
-use Rattle.file.specs.declared.Finding.the-variants.{Found, Refused}
-use Rattle.file.specs.declared.Writing.the-variants.{Written}
+use Rattle.file.specs.declared.Finding.the-variants.{Found, Broken, Refused}
+use Rattle.file.specs.declared.Writing.the-variants.{Written, Refused as Unwritten}
 use Rattle.file.specs.Contents.{named, below, bodyBytes, nameBytes, contentsBytes, bodiesAt, nameOf, fileOf, total, bodyOf}
 use Rattle.file.specs.Check.{partsCheck, namesIn, countsIn, checkOf}
 use Rattle.file.specs.Ready.{Named, Whole}
-use Rattle.file.specs.Write.{Wrote}
+use Rattle.file.specs.Write.{writingOf, Wrote}
 use Rattle.file.specs.Lookup.{findingOf, fileFrom, partOf}
 
 -- the parts of a file that the writer would write: its names, numbers of entries and bodies
@@ -97,11 +98,22 @@ FoundInFleet =
     → (i : ℕ) → i < length counts′ → Lacks names counts (nameOf names′ i)
     → findingOf site fleet (nameOf names′ i) ≡ Found Fleet (bodyAt counts′ i) (bodyBytes (getD counts′ i 0))
 
--- a name that both files lack is Absent
+-- a name is refused as Absent exactly if both files lack it
 abbrev pub AbsentFromBoth : Type 0
 AbsentFromBoth =
     (site fleet name names counts bodies names′ counts′ bodies′ : List ℕ) → PartsOf site names counts bodies → PartsOf fleet names′ counts′ bodies′
-    → Lacks names counts name → Lacks names′ counts′ name → findingOf site fleet name ≡ Refused Absent
+    → findingOf site fleet name ≡ Refused Absent ↔ (Lacks names counts name × Lacks names′ counts′ name)
+
+-- the check refuses the site file; or it accepts the site file and refuses the fleet file
+abbrev pub BrokenBy : FileCheck → FileCheck → Whose → Refusal → Type 0
+BrokenBy site fleet Site r = site ≡ Unsound r
+BrokenBy site fleet Fleet r = (site ≡ Sound) × (fleet ≡ Unsound r)
+
+-- a lookup answers with a broken file exactly if the check refuses that file, the site file first
+abbrev pub BrokenExactly : Type 0
+BrokenExactly =
+    (site fleet name : List ℕ) (whose : Whose) (r : Refusal)
+    → findingOf site fleet name ≡ Broken whose r ↔ BrokenBy (checkOf site) (checkOf fleet) whose r
 
 -- in the file f, used as site file or as fleet file, a lookup of each name returns the body that belongs to it, byte for byte
 pub record ReadsBack (f names counts bodies : List ℕ) : Type 0 where
@@ -168,6 +180,16 @@ abbrev pub PartsJudged : Type 0
 PartsJudged =
     (names counts bodies : List ℕ) (r : FileCheck)
     → partsCheck names counts bodies ≡ r ↔ Judged (PartsCounted names counts) (PartRight names counts) counts bodies r
+
+-- the writer refuses exactly if its parts are refused, or they are sound and the slice is too short for the file: Room, with the length needed
+abbrev pub WriterRefuses : Type 0
+WriterRefuses =
+    (names counts bodies : List ℕ) (room : ℕ) (r : Refusal)
+    → writingOf names counts bodies room ≡ Unwritten r
+    ↔ ((partsCheck names counts bodies ≡ Unsound r)
+    ⊎ ((partsCheck names counts bodies ≡ Sound)
+    × (room < length (fileOf names counts bodies))
+    × (r ≡ Room (length (fileOf names counts bodies)))))
 
 -- a file's count is 1 to 16, and its contents are not cut short
 pub record FileCounted (f : List ℕ) : Type 0 where
