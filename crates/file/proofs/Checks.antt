@@ -19,7 +19,7 @@ use Rattle.file.specs.declared.FileCheck.the-variants.{Sound, Refused}
 use Rattle.file.specs.Contents.{named, below, bodyBytes, nameBytes, contentsBytes, bodiesAt, total}
 use Rattle.file.specs.Check.{entryKept, brokenEntry, brokenBody, onEntry, bodiesCheck, partsCheck}
 use Rattle.file.specs.Check.{countsIn, contentKept, brokenContent, restCheck, checkOf}
-use Rattle.file.specs.Claim.{EntryRight}
+use Rattle.file.specs.Judged.{EntryRight}
 
 -- an entry refuses, or what follows is asked
 pub entry-refused : (o : Option ℕ) (r : Refusal) (rest : FileCheck) → onEntry o Sound ≡ Refused r → Refused r ≡ onEntry o rest
@@ -173,15 +173,13 @@ unfolding checkOf
 check-none [] h = refl
 check-none (x ∷ f) h = absurd (omega arith)
 
-pub check-count : (f : List ℕ) → 1 ≤ length f → restCheck (getD f 0 0) (drop 1 f) ≡ checkOf f
-unfolding checkOf
-check-count [] h = absurd (omega arith)
-check-count (x ∷ f) h = refl
-
 pub check-rest : (f : List ℕ) → checkOf f ≡ restCheck (getD f 0 0) (drop 1 f)
 unfolding checkOf
 check-rest [] = rest-none 0 [] (omega arith)
 check-rest (x ∷ f) = refl
+
+pub check-count : (f : List ℕ) → 1 ≤ length f → restCheck (getD f 0 0) (drop 1 f) ≡ checkOf f
+check-count f h = sym (check-rest f)
 
 -- what an entry that is kept says, and the other way
 pub entry-kept : (before name : List ℕ) (n : ℕ) → entryKept before name n ≡ true → EntryRight before name n

@@ -26,12 +26,11 @@ use Rattle.body.proofs.Sizes.{whole-sized, check-by}
 use Rattle.body.proofs.Scan.{left-suc, left-zero}
 use Rattle.file.specs.declared.FileCheck.{FileCheck}
 use Rattle.file.specs.declared.FileCheck.the-variants.{Sound, Refused}
-use Rattle.file.specs.Contents.{bodyBytes, nameBytes, contentsBytes, bodiesAt, nameOf, total, bodyOf}
+use Rattle.file.specs.Contents.{bodyBytes, nameBytes, contentsBytes, bodiesAt, nameOf, total, bodyAt, bodyOf}
 use Rattle.file.specs.Check.{entryKept, brokenEntry, brokenBody, onEntry, bodiesCheck, contentKept, brokenContent}
 use Rattle.file.specs.Ready.{Whole}
-use Rattle.file.specs.Claim.{AllBelow, BodyRight, Judged, nameBefore, PartRight, FileCounted, ContentRight}
-use Rattle.file.specs.Claim.{bodyAt, contentsFrom, namesOf, countsOf}
-use Rattle.file.specs.Claim.Judged.{count, entry, size, body, sound}
+use Rattle.file.specs.Judged.{AllBelow, BodyRight, Judged, nameBefore, PartRight, FileCounted, contentsFrom, namesOf, countsOf, ContentRight}
+use Rattle.file.specs.Judged.Judged.{count, entry, size, body, sound}
 use Rattle.file.proofs.Checks.{entry-kept, right-kept, content-kept, length-counts}
 use Rattle.file.proofs.Files.{name-held, count-held}
 use Rattle.file.proofs.Turns.{total-turn, Searched, searched-none, searched-all, AtBody, searched-here, searched-more}

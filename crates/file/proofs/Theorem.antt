@@ -10,6 +10,7 @@ use lib.ListN.{length, getD, take, drop, length-drop}
 use lib.Seq.{drop-drop}
 use borrow.Author.Tests.{le-leb, eq-eqb, leb-true, eqb-true}
 use Rattle.rules.specs.Limits.{mostPatterns}
+use Rattle.refusal.specs.declared.Refusal.the-variants.{Absent}
 use Rattle.body.specs.Bytes.{valueAt}
 use Rattle.body.specs.Entry.{entryOf, entryAt, entriesBy, entries}
 use Rattle.body.specs.Check.{depthOf, scan}
@@ -18,15 +19,17 @@ use Rattle.file.specs.declared.FileCheck.the-variants.{Sound}
 use Rattle.file.specs.declared.Whose.the-variants.{Site, Fleet}
 use Rattle.file.specs.declared.Place.the-variants.{At, Nowhere}
 use Rattle.file.specs.declared.Finding.{Finding}
+use Rattle.file.specs.declared.Finding.the-variants.{Refused}
 use Rattle.file.specs.Contents.{nameByte, spaces, padded, named, below, bodyBytes, nameBytes, contentsBytes, bodiesAt}
-use Rattle.file.specs.Contents.{nameOf, fileOf, total, bodyOf}
+use Rattle.file.specs.Contents.{nameOf, fileOf, total, bodyAt, bodyOf}
 use Rattle.file.specs.Check.{entryKept, brokenEntry, brokenBody, bodiesCheck, partsCheck, countsIn, contentKept, brokenContent, restCheck, checkOf}
 use Rattle.file.specs.Write.{writingOf}
 use Rattle.file.specs.Lookup.{placed, findingOf, partOf}
 use Rattle.file.specs.Claim.{PartsOf, AcceptedExactly, OneWay, OneName, WrittenAccepted, FoundBody, FoundWithin, FoundNamed}
-use Rattle.file.specs.Claim.{bodyAt, Lacks, FoundInSite, FoundInFleet, AbsentFromBoth, BrokenExactly}
+use Rattle.file.specs.Claim.{Lacks, FoundInSite, FoundInFleet, AbsentFromBoth, BrokenExactly}
 use Rattle.file.specs.Claim.{ReadsBack, FileReadsBack, WrittenReadsBack, WriterRefuses, SmallestFile}
-use Rattle.file.specs.Claim.{Judged, PartsCounted, PartRight, PartsJudged, FileCounted, ContentRight, countsOf, bodiesOf, FileJudged}
+use Rattle.file.specs.Claim.{PartsJudged, FileJudged}
+use Rattle.file.specs.Judged.{Judged, PartsCounted, PartRight, FileCounted, ContentRight, countsOf, bodiesOf}
 use Rattle.file.proofs.Checks.{parts-sound, check-rest}
 use Rattle.file.proofs.Writes.{wrote-parts, refused-by}
 use Rattle.file.proofs.Files.{near, bodies-after, written-sound, accepted-parts, parts-read}
@@ -88,20 +91,29 @@ found-in-fleet site fleet names counts bodies names′ counts′ bodies′ k k�
     sym (finding-by site fleet (nameOf names′ i) (parts-accepted site names counts bodies k) (parts-accepted fleet names′ counts′ bodies′ k′) _ _
     (placed-nowhere site names counts bodies k (nameOf names′ i) l) (placed-there fleet names′ counts′ bodies′ k′ i h))
 
-pub absent-from-both : AbsentFromBoth
-absent-from-both site fleet name names counts bodies names′ counts′ bodies′ k k′ = (
-  λ p.
-      let in-site : Lacks names counts name =
-      λ j h e.
+-- files that the name is absent from have it nowhere
+module _ (site fleet name names counts bodies names′ counts′ bodies′ : List ℕ) (k : PartsOf site names counts bodies)
+    (k′ : PartsOf fleet names′ counts′ bodies′) (p : findingOf site fleet name ≡ Refused Absent) where
+  site-lacks : Lacks names counts name
+  site-lacks j h e =
       let f = found-in-site site fleet names counts bodies k (parts-accepted fleet names′ counts′ bodies′ k′) j h in
       let g = ap (findingOf site fleet) e in
-      let z : _≡_ {A = ℕ} 0 1 = cc in omega arith in (
-        in-site,
-        λ j h e.
-            let f = found-in-fleet site fleet names counts bodies names′ counts′ bodies′ k k′ j h (λ i l q. in-site i l (q ∙ e)) in
-            let g = ap (findingOf site fleet) e in
-            let z : _≡_ {A = ℕ} 0 1 = cc in omega arith,
-      ),
+      let z : _≡_ {A = ℕ} 0 1 = cc in
+      omega arith
+
+  fleet-lacks : Lacks names′ counts′ name
+  fleet-lacks j h e =
+      let f = found-in-fleet site fleet names counts bodies names′ counts′ bodies′ k k′ j h (λ i l q. site-lacks i l (q ∙ e)) in
+      let g = ap (findingOf site fleet) e in
+      let z : _≡_ {A = ℕ} 0 1 = cc in
+      omega arith
+
+pub absent-from-both : AbsentFromBoth
+absent-from-both site fleet name names counts bodies names′ counts′ bodies′ k k′ = (
+  λ p. (
+    site-lacks site fleet name names counts bodies names′ counts′ bodies′ k k′ p,
+    fleet-lacks site fleet name names counts bodies names′ counts′ bodies′ k k′ p,
+  ),
   λ l. sym (finding-by site fleet name (parts-accepted site names counts bodies k) (parts-accepted fleet names′ counts′ bodies′ k′) _ _
       (placed-nowhere site names counts bodies k name (l .0)) (placed-nowhere fleet names′ counts′ bodies′ k′ name (l .1))),
 )

@@ -1,15 +1,15 @@
 -- What is claimed of pattern files. Assumes nothing: these are definitions.
-use Prim.Native.Nat.{ℕ, zero, suc, _+_, _*_, _≤_, _<_}
+use Prim.Native.Nat.{ℕ, _+_, _≤_, _<_}
 use mathlib.Core.Path.{_≡_}
 use mathlib.Core.Logic.{_⊎_, _↔_}
 use mathlib.Core.Bool.{true}
 use mathlib.Core.List.{List, [], _∷_}
-use lib.ListN.{length, getD, take, drop}
-use Rattle.rules.specs.Limits.{argumentBytes, mostEntries, mostPatterns}
+use lib.ListN.{length, getD, take}
+use Rattle.rules.specs.Limits.{argumentBytes}
 use Rattle.refusal.specs.declared.Refusal.{Refusal}
-use Rattle.refusal.specs.declared.Refusal.the-variants.{Count, Entry, Size, Body, Room, Absent}
+use Rattle.refusal.specs.declared.Refusal.the-variants.{Room, Absent}
 use Rattle.body.specs.declared.BodyCheck.the-variants as Bodies
-use Rattle.body.specs.Bytes.{Bytes, valueAt}
+use Rattle.body.specs.Bytes.{Bytes}
 use Rattle.body.specs.Check.{checkOf as bodyCheck}
 use Rattle.file.specs.declared.FileCheck.{FileCheck}
 use Rattle.file.specs.declared.FileCheck.the-variants.{Sound, Refused as Unsound}
@@ -17,11 +17,11 @@ use Rattle.file.specs.declared.Whose.{Whose}
 use Rattle.file.specs.declared.Whose.the-variants.{Site, Fleet}
 use Rattle.file.specs.declared.Finding.the-variants.{Found, Broken, Refused}
 use Rattle.file.specs.declared.Writing.the-variants.{Written, Refused as Unwritten}
-use Rattle.file.specs.Contents.{named, below, bodyBytes, nameBytes, contentsBytes, bodiesAt, nameOf, fileOf, total, bodyOf}
-use Rattle.file.specs.Check.{partsCheck, namesIn, countsIn, checkOf}
-use Rattle.file.specs.Ready.{Named, Whole}
+use Rattle.file.specs.Contents.{named, bodyBytes, nameBytes, nameOf, fileOf, bodyAt, bodyOf}
+use Rattle.file.specs.Check.{partsCheck, checkOf}
 use Rattle.file.specs.Write.{writingOf, Wrote}
 use Rattle.file.specs.Lookup.{findingOf, fileFrom, partOf}
+use Rattle.file.specs.Judged.{Judged, PartsCounted, PartRight, FileCounted, ContentRight, countsOf, bodiesOf}
 
 -- the parts of a file that the writer would write: its names, numbers of entries and bodies
 pub record PartsOf (f names counts bodies : List ℕ) : Type 0 where
@@ -76,10 +76,6 @@ FoundNamed =
     (site fleet name : List ℕ) (whose : Whose) (from long : ℕ)
     → findingOf site fleet name ≡ Found whose from long → (length name ≡ nameBytes) × (named name ≡ true)
 
--- where body number i begins
-abbrev pub bodyAt : List ℕ → ℕ → ℕ
-bodyAt counts i = bodiesAt (length counts) + total (take i counts)
-
 -- a name is none of those of a file
 abbrev pub Lacks : List ℕ → List ℕ → List ℕ → Type 0
 Lacks names counts name = (j : ℕ) → j < length counts → nameOf names j ≡ name → ⊥
@@ -133,48 +129,6 @@ abbrev pub WrittenReadsBack : Type 0
 WrittenReadsBack =
     (names counts bodies old new : List ℕ) (n : ℕ) → Wrote names counts bodies old new (Written n) → ReadsBack (take n new) names counts bodies
 
--- a rule holds for every number below n
-abbrev pub AllBelow : ℕ → (ℕ → Type 0) → Type 0
-AllBelow n Right = (i : ℕ) → i < n → Right i
-
--- a body that keeps its rules is one that the check of a lone body accepts
-abbrev pub BodyRight : List ℕ → List ℕ → ℕ → Type 0
-BodyRight counts bodies b = bodyCheck argumentBytes (bodyOf counts bodies b) ≡ Bodies.Sound
-
--- the answer that the rules on the count and on each entry call for, and then those on the bodies; it is the first of these that applies:
--- Count, Entry with the lowest entry that breaks a rule, Size, Body with the lowest body that breaks a rule and the entry where it does
-pub data Judged (CountRight : Type 0) (EntryRight : ℕ → Type 0) (counts bodies : List ℕ) : FileCheck → Type 0 where
-  count : (CountRight → ⊥) → Judged CountRight EntryRight counts bodies (Unsound Count)
-  entry : {i : ℕ} → CountRight → i < length counts → AllBelow i EntryRight → (EntryRight i → ⊥)
-      → Judged CountRight EntryRight counts bodies (Unsound (Entry i))
-  size : CountRight → AllBelow (length counts) EntryRight → (Whole counts bodies → ⊥) → Judged CountRight EntryRight counts bodies (Unsound Size)
-  body : {b e : ℕ} → CountRight → AllBelow (length counts) EntryRight → Whole counts bodies → b < length counts → AllBelow b (BodyRight counts bodies)
-      → bodyCheck argumentBytes (bodyOf counts bodies b) ≡ Bodies.Refused (Body 0 e) → Judged CountRight EntryRight counts bodies (Unsound (Body b e))
-  sound : CountRight → AllBelow (length counts) EntryRight → Whole counts bodies → AllBelow (length counts) (BodyRight counts bodies)
-      → Judged CountRight EntryRight counts bodies Sound
-
--- the writer is given 1 to 16 patterns, and a name for each
-pub record PartsCounted (names counts : List ℕ) : Type 0 where
-  pub least : 1 ≤ length counts
-  pub most : length counts ≤ mostPatterns
-  pub named : Named names counts
-
--- the name before number i; no bytes before the first
-abbrev pub nameBefore : List ℕ → ℕ → List ℕ
-nameBefore names zero = []
-nameBefore names (suc i) = nameOf names i
-
--- an entry keeps its rules: its name is one and stands after the name before it, and it has 1 to 63 entries
-pub record EntryRight (before name : List ℕ) (n : ℕ) : Type 0 where
-  pub well : named name ≡ true
-  pub rises : below before name ≡ true
-  pub least : 1 ≤ n
-  pub most : n ≤ mostEntries
-
--- entry i of the names and numbers given to the writer
-abbrev pub PartRight : List ℕ → List ℕ → ℕ → Type 0
-PartRight names counts i = EntryRight (nameBefore names i) (nameOf names i) (getD counts i 0)
-
 -- the check of the writer's parts gives each answer exactly when the rules call for it
 abbrev pub PartsJudged : Type 0
 PartsJudged =
@@ -190,32 +144,6 @@ WriterRefuses =
     ⊎ ((partsCheck names counts bodies ≡ Sound)
     × (room < length (fileOf names counts bodies))
     × (r ≡ Room (length (fileOf names counts bodies)))))
-
--- a file's count is 1 to 16, and its contents are not cut short
-pub record FileCounted (f : List ℕ) : Type 0 where
-  pub least : 1 ≤ getD f 0 0
-  pub most : getD f 0 0 ≤ mostPatterns
-  pub held : bodiesAt (getD f 0 0) ≤ length f
-
--- a file from entry i of its contents on
-abbrev pub contentsFrom : List ℕ → ℕ → List ℕ
-contentsFrom f i = drop (contentsBytes * i) (drop 1 f)
-
--- the names, the numbers of entries and the bodies that a file holds
-abbrev pub namesOf : List ℕ → List ℕ
-namesOf f = namesIn (drop 1 f) (getD f 0 0)
-
-abbrev pub countsOf : List ℕ → List ℕ
-countsOf f = countsIn (drop 1 f) (getD f 0 0)
-
-abbrev pub bodiesOf : List ℕ → List ℕ
-bodiesOf f = contentsFrom f (getD f 0 0)
-
--- entry i of a file's contents keeps the same rules, gives the offset where its body begins, and ends with a zero byte
-pub record ContentRight (f : List ℕ) (i : ℕ) : Type 0 where
-  pub entry : PartRight (namesOf f) (countsOf f) i
-  pub begins : valueAt 2 (contentsFrom f i) 8 ≡ bodyAt (countsOf f) i
-  pub zeros : getD (contentsFrom f i) 11 0 ≡ 0
 
 -- the check of a file gives each answer exactly when the rules call for it
 abbrev pub FileJudged : Type 0

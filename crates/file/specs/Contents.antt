@@ -70,6 +70,10 @@ unfoldable pub total : List ℕ → ℕ
 total [] = 0
 total (n ∷ counts) = bodyBytes n + total counts
 
+-- where body number i begins in a file
+abbrev pub bodyAt : List ℕ → ℕ → ℕ
+bodyAt counts i = bodiesAt (length counts) + total (take i counts)
+
 -- body number i of bodies end to end
 abbrev pub bodyOf : List ℕ → List ℕ → ℕ → List ℕ
 bodyOf counts bodies i = take (bodyBytes (getD counts i 0)) (drop (total (take i counts)) bodies)
