@@ -21,7 +21,7 @@ use Rattle.file.specs.Check.{entryKept, brokenEntry, brokenBody, onEntry
 use Rattle.file.specs.Check.{countsIn, contentKept, brokenContent, restCheck, checkOf}
 use Rattle.file.specs.Judged.{EntryRight}
 
--- an entry refuses, or what follows is asked
+-- an entry is refused, or what follows decides
 pub entry-refused : (o : Option ℕ) (r : Refusal) (rest : FileCheck) → onEntry o Sound ≡ Refused r → Refused r ≡ onEntry o rest
 entry-refused none r rest p = let z : _≡_ {A = ℕ} 0 1 = cc in absurd (omega arith)
 entry-refused (some i) r rest p = sym p
@@ -181,7 +181,7 @@ check-rest (x ∷ f) = refl
 pub check-count : (f : List ℕ) → 1 ≤ length f → restCheck (getD f 0 0) (drop 1 f) ≡ checkOf f
 check-count f h = sym (check-rest f)
 
--- what an entry that is kept says, and the other way
+-- the test of an entry passes exactly if the entry keeps its rules
 pub entry-kept : (before name : List ℕ) (n : ℕ) → entryKept before name n ≡ true → EntryRight before name n
 unfolding entryKept
 entry-kept before name n p = go (named name) (below before name) (leb 1 n) (leb n mostEntries) refl refl refl refl p
@@ -215,7 +215,7 @@ entries-small before names (n ∷ counts) i p zero = entry-kept _ _ n (entries-f
 entries-small before names (n ∷ counts) i p (suc k) =
     entries-small (take nameBytes names) (drop nameBytes names) counts (i + 1) (entries-first before names n counts i p .1) k
 
--- the same of the contents of a file
+-- the same for an entry of the contents of a file
 pub record ContentKept (before c : List ℕ) (offset : ℕ) : Type 0 where
   pub entry : entryKept before (take nameBytes c) (getD c 10 0) ≡ true
   pub begins : valueAt 2 c 8 ≡ offset
@@ -246,6 +246,6 @@ unfolding countsIn
 length-counts c zero = refl
 length-counts c (suc k) = ap suc (length-counts (drop contentsBytes c) k)
 
--- the numbers of entries, as they are lent from the copy
+-- the numbers of entries, as the code takes them from the copy
 pub counts-lent : (count : ℕ) (f rest counts : List ℕ) → counts ≡ countsIn f count ++ rest → take (count - 0) counts ≡ countsIn f count
 counts-lent count f rest counts p = rw (p, sub-zero count) (take-at (countsIn f count) rest count (length-counts f count))

@@ -1,4 +1,4 @@
--- Pattern files: what is accepted is exactly what the writer would write, in one way; a lookup finds each name where it stands, and only bodies.
+-- The claims on pattern files: which files are accepted, what a lookup finds, that what was written is read back, and when each refusal is given.
 -- A file's parts are read from it, and its names rise strictly. Assumes nothing.
 use Prim.Native.Nat.{ℕ, _*_, _<_}
 use mathlib.Core.Logic.{_↔_}
@@ -91,7 +91,7 @@ found-in-fleet site fleet names counts bodies names′ counts′ bodies′ k k�
     sym (finding-by site fleet (nameOf names′ i) (parts-accepted site names counts bodies k) (parts-accepted fleet names′ counts′ bodies′ k′) _ _
     (placed-nowhere site names counts bodies k (nameOf names′ i) l) (placed-there fleet names′ counts′ bodies′ k′ i h))
 
--- files that the name is absent from have it nowhere
+-- if a name is refused as Absent, both files lack it
 module _ (site fleet name names counts bodies names′ counts′ bodies′ : List ℕ) (k : PartsOf site names counts bodies)
     (k′ : PartsOf fleet names′ counts′ bodies′) (p : findingOf site fleet name ≡ Refused Absent) where
   site-lacks : Lacks names counts name
@@ -129,7 +129,7 @@ broken-exactly site fleet name Fleet r = (
   λ p. sym (finding-fleet-broken site fleet name (p .0) r (p .1)),
 )
 
--- the part of a file where a body stands is the body that was given
+-- the bytes at the place of body number i are the body that was given
 body-part : (f names counts bodies : List ℕ) → PartsOf f names counts bodies → (i : ℕ)
     → take (bodyBytes (getD counts i 0)) (drop (bodyAt counts i) f) ≡ bodyOf counts bodies i
 body-part f names counts bodies k i =
@@ -203,7 +203,7 @@ pub writer-refuses : WriterRefuses
 unfolding writingOf
 writer-refuses names counts bodies room r = refused-by (partsCheck names counts bodies) (length (fileOf names counts bodies)) room r
 
--- the definitions compute
+-- by computing
 pub smallest-file : SmallestFile
 unfolding checkOf restCheck brokenContent contentKept entryKept named padded spaces nameByte below valueAt
     bodiesCheck countsIn total brokenBody scan entries entriesBy entryAt entryOf depthOf

@@ -170,7 +170,7 @@ module _ (names counts bodies old : List ℕ) where
           ∙ rw (q, r) refl;
     }
 
--- what the writer says it wrote: its parts are accepted, and the bytes are those of the file
+-- if the writer says that it wrote, its parts are accepted and the bytes are those of the file
 written-by : (c : FileCheck) (needed room n : ℕ) → Written n ≡ ifSound c (inRoom needed room) → (c ≡ Checks.Sound) × (needed ≡ n)
 written-by (Checks.Refused r) needed room n p = let z : _≡_ {A = ℕ} 0 1 = cc in absurd (omega arith)
 written-by Checks.Sound needed room n p = go (leb needed room) p
@@ -187,7 +187,7 @@ wrote-parts names counts bodies old new n w =
     let b = written-by (partsCheck names counts bodies) (length f) (length old) n (w .answer) in
     record { sound = b .0; same = ap (take n) (w .later) ∙ take-at f (drop n old) n (b .1) }
 
--- and what it refuses
+-- what the writer refuses
 pub refused-by : (c : FileCheck) (needed room : ℕ) (r : Refusal)
     → ifSound c (inRoom needed room) ≡ Refused r ↔ ((c ≡ Checks.Refused r) ⊎ ((c ≡ Checks.Sound) × (room < needed) × (r ≡ Room needed)))
 refused-by (Checks.Refused s) needed room r = (

@@ -47,14 +47,14 @@ abbrev pub nameBefore : List ℕ → ℕ → List ℕ
 nameBefore names zero = []
 nameBefore names (suc i) = nameOf names i
 
--- an entry keeps its rules: its name is one and stands after the name before it, and it has 1 to 63 entries
+-- an entry keeps its rules: its name is well formed and stands after the name before it, and its body has 1 to 63 entries
 pub record EntryRight (before name : List ℕ) (n : ℕ) : Type 0 where
   pub well : named name ≡ true
   pub rises : below before name ≡ true
   pub least : 1 ≤ n
   pub most : n ≤ mostEntries
 
--- entry i of the names and numbers given to the writer
+-- the same of entry i of the names and numbers given to the writer
 abbrev pub PartRight : List ℕ → List ℕ → ℕ → Type 0
 PartRight names counts i = EntryRight (nameBefore names i) (nameOf names i) (getD counts i 0)
 
