@@ -19,8 +19,9 @@ use Rattle.file.specs.declared.FileCheck.the-variants.{Sound, Refused}
 use Rattle.file.specs.Contents.{named, below, bodyBytes, nameBytes, contentsBytes, bodiesAt, total}
 use Rattle.file.specs.Check.{entryKept, brokenEntry, brokenBody, onEntry, bodiesCheck, partsCheck}
 use Rattle.file.specs.Check.{countsIn, contentKept, brokenContent, restCheck, checkOf}
+use Rattle.file.specs.Judged.{EntryRight}
 
--- an entry refuses, or what follows is asked
+-- an entry is refused, or what follows decides
 pub entry-refused : (o : Option ℕ) (r : Refusal) (rest : FileCheck) → onEntry o Sound ≡ Refused r → Refused r ≡ onEntry o rest
 entry-refused none r rest p = let z : _≡_ {A = ℕ} 0 1 = cc in absurd (omega arith)
 entry-refused (some i) r rest p = sym p
@@ -172,29 +173,30 @@ unfolding checkOf
 check-none [] h = refl
 check-none (x ∷ f) h = absurd (omega arith)
 
-pub check-count : (f : List ℕ) → 1 ≤ length f → restCheck (getD f 0 0) (drop 1 f) ≡ checkOf f
+pub check-rest : (f : List ℕ) → checkOf f ≡ restCheck (getD f 0 0) (drop 1 f)
 unfolding checkOf
-check-count [] h = absurd (omega arith)
-check-count (x ∷ f) h = refl
+check-rest [] = rest-none 0 [] (omega arith)
+check-rest (x ∷ f) = refl
 
--- what an entry that is kept says
-pub record EntryKept (before name : List ℕ) (n : ℕ) : Type 0 where
-  pub well : named name ≡ true
-  pub rises : below before name ≡ true
-  pub least : 1 ≤ n
-  pub most : n ≤ mostEntries
+pub check-count : (f : List ℕ) → 1 ≤ length f → restCheck (getD f 0 0) (drop 1 f) ≡ checkOf f
+check-count f h = sym (check-rest f)
 
-pub entry-kept : (before name : List ℕ) (n : ℕ) → entryKept before name n ≡ true → EntryKept before name n
+-- the test of an entry passes exactly if the entry keeps its rules
+pub entry-kept : (before name : List ℕ) (n : ℕ) → entryKept before name n ≡ true → EntryRight before name n
 unfolding entryKept
 entry-kept before name n p = go (named name) (below before name) (leb 1 n) (leb n mostEntries) refl refl refl refl p
   where
     go : (t₁ t₂ t₃ t₄ : Bool) → named name ≡ t₁ → below before name ≡ t₂ → leb 1 n ≡ t₃ → leb n mostEntries ≡ t₄
-        → cond t₁ (cond t₂ (cond t₃ t₄ false) false) false ≡ true → EntryKept before name n
+        → cond t₁ (cond t₂ (cond t₃ t₄ false) false) false ≡ true → EntryRight before name n
     go true true true true p q r s h = record { well = p; rises = q; least = leb-true 1 n r; most = leb-true n mostEntries s }
     go true true true false p q r s h = let z : _≡_ {A = ℕ} 0 1 = cc in absurd (omega arith)
     go true true false t₄ p q r s h = let z : _≡_ {A = ℕ} 0 1 = cc in absurd (omega arith)
     go true false t₃ t₄ p q r s h = let z : _≡_ {A = ℕ} 0 1 = cc in absurd (omega arith)
     go false t₂ t₃ t₄ p q r s h = let z : _≡_ {A = ℕ} 0 1 = cc in absurd (omega arith)
+
+pub right-kept : (before name : List ℕ) (n : ℕ) → EntryRight before name n → entryKept before name n ≡ true
+unfolding entryKept
+right-kept before name n k = rw (k .well, k .rises, le-leb 1 n (k .least), le-leb n mostEntries (k .most))
 
 cond-none : (t : Bool) (o : Option ℕ) (i : ℕ) → cond t o (some i) ≡ none → (t ≡ true) × (o ≡ none)
 cond-none true o i p = (refl, p)
@@ -213,7 +215,7 @@ entries-small before names (n ∷ counts) i p zero = entry-kept _ _ n (entries-f
 entries-small before names (n ∷ counts) i p (suc k) =
     entries-small (take nameBytes names) (drop nameBytes names) counts (i + 1) (entries-first before names n counts i p .1) k
 
--- the same of the contents of a file
+-- the same for an entry of the contents of a file
 pub record ContentKept (before c : List ℕ) (offset : ℕ) : Type 0 where
   pub entry : entryKept before (take nameBytes c) (getD c 10 0) ≡ true
   pub begins : valueAt 2 c 8 ≡ offset
@@ -244,6 +246,6 @@ unfolding countsIn
 length-counts c zero = refl
 length-counts c (suc k) = ap suc (length-counts (drop contentsBytes c) k)
 
--- the numbers of entries, as they are lent from the copy
+-- the numbers of entries, as the code takes them from the copy
 pub counts-lent : (count : ℕ) (f rest counts : List ℕ) → counts ≡ countsIn f count ++ rest → take (count - 0) counts ≡ countsIn f count
 counts-lent count f rest counts p = rw (p, sub-zero count) (take-at (countsIn f count) rest count (length-counts f count))

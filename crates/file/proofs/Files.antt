@@ -12,7 +12,7 @@ use Rattle.rules.specs.Limits.{mostEntries}
 use Rattle.body.specs.Bytes.{bytesOf, valueAt, Bytes}
 use Rattle.body.proofs.Bytes.{value-drop, value-bytes, bytes-value}
 use Rattle.file.specs.declared.FileCheck.the-variants.{Sound}
-use Rattle.file.specs.Contents.{bodyBytes, nameBytes, contentsBytes, bodiesAt, contentOf, contents, fileOf, total}
+use Rattle.file.specs.Contents.{bodyBytes, nameBytes, contentsBytes, bodiesAt, nameOf, contentOf, contents, fileOf, total}
 use Rattle.file.specs.Check.{brokenEntry, namesIn, countsIn, contentKept, brokenContent, partsCheck, checkOf}
 use Rattle.file.specs.Claim.{PartsOf, Parts}
 use Rattle.file.proofs.Checks.{entries-first, entries-small, content-kept, contents-first, length-counts}
@@ -141,6 +141,34 @@ length-names c (suc k) h =
       length-take-le nameBytes c (omega arith),
       length-names (drop contentsBytes c) k (omega (arith, length-drop contentsBytes c)),
     )
+
+-- the names after the first are those of the bytes after it
+pub name-next : (names : List ℕ) (i : ℕ) → nameOf names (suc i) ≡ nameOf (drop nameBytes names) i
+name-next names i =
+    let e : suc i * nameBytes ≡ nameBytes + i * nameBytes = omega arith in
+    ap (take nameBytes) (ap (λ (k : ℕ). drop k names) e ∙ sym (drop-drop (i * nameBytes) nameBytes names))
+
+-- each name and number that contents hold, by their own bytes
+pub name-held : (c : List ℕ) (k i : ℕ) → i < k → contentsBytes * k ≤ length c
+    → take nameBytes (drop (contentsBytes * i) c) ≡ nameOf (namesIn c k) i
+unfolding namesIn
+name-held c zero i h l = absurd (omega arith)
+name-held c (suc k) zero h l = sym (take-at (take nameBytes c) (namesIn (drop contentsBytes c) k) nameBytes (length-take-le nameBytes c (omega arith)))
+name-held c (suc k) (suc i) h l =
+    let rest : List ℕ = drop contentsBytes c in
+    let next : contentsBytes * suc i ≡ contentsBytes + contentsBytes * i = omega arith in
+    let passed : drop nameBytes (take nameBytes c ++ namesIn rest k) ≡ namesIn rest k =
+    drop-at (take nameBytes c) (namesIn rest k) nameBytes (length-take-le nameBytes c (omega arith)) in
+    rw (next, ← drop-drop (contentsBytes * i) contentsBytes c, name-next (take nameBytes c ++ namesIn rest k) i, passed)
+    (name-held rest k i (omega arith) (omega (arith, length-drop contentsBytes c)))
+
+pub count-held : (c : List ℕ) (k i : ℕ) → i < k → getD (drop (contentsBytes * i) c) 10 0 ≡ getD (countsIn c k) i 0
+unfolding countsIn
+count-held c zero i h = absurd (omega arith)
+count-held c (suc k) zero h = refl
+count-held c (suc k) (suc i) h =
+    let next : contentsBytes * suc i ≡ contentsBytes + contentsBytes * i = omega arith in
+    rw (next, ← drop-drop (contentsBytes * i) contentsBytes c) (count-held (drop contentsBytes c) k i (omega arith))
 
 -- an entry's bytes are those of what is read from it
 two : (l : List ℕ) → 2 ≤ length l → take 2 l ≡ getD l 0 0 ∷ getD l 1 0 ∷ []

@@ -25,6 +25,7 @@ use Rattle.refusal.specs.declared.Refusal.the-variants.{Absent}
 use Rattle.file.specs.Contents.{named, bodyBytes, nameBytes, contentsBytes, bodiesAt, total}
 use Rattle.file.specs.Check.{onBody, brokenBody, countsIn, brokenContent, checkOf}
 use Rattle.file.specs.Lookup.{same, seek, placed, inFile, ifSound, findingOf, fileFrom, partOf}
+use Rattle.file.specs.Claim.{BrokenBy}
 use Rattle.file.proofs.Order.{same-true}
 use Rattle.file.proofs.Checks.{entry-kept, content-kept, contents-first, rest-sound}
 
@@ -123,6 +124,18 @@ unfolding findingOf
 finding-found site fleet name whose from long p =
     found-by (checkOf site) (checkOf fleet) (placed site name) (placed fleet name) whose from long p
     (λ w f l. BodyIn (fileFrom w site fleet) name f l) (placed-found site name) (placed-found fleet name)
+
+-- a broken file is one that the check refused
+pub broken-by : (site fleet : FileCheck) (a b : Place) (whose : Whose) (r : Refusal)
+    → ifSound site Site (ifSound fleet Fleet (inFile a Site (inFile b Fleet (Refused Absent)))) ≡ Broken whose r
+    → BrokenBy site fleet whose r
+broken-by (Checks.Refused s) fleet a b Site r p = cc
+broken-by (Checks.Refused s) fleet a b Fleet r p = let z : _≡_ {A = ℕ} 0 1 = cc in absurd (omega arith)
+broken-by Checks.Sound (Checks.Refused s) a b Site r p = let z : _≡_ {A = ℕ} 0 1 = cc in absurd (omega arith)
+broken-by Checks.Sound (Checks.Refused s) a b Fleet r p = (refl, cc)
+broken-by Checks.Sound Checks.Sound (At x y) b whose r p = let z : _≡_ {A = ℕ} 0 1 = cc in absurd (omega arith)
+broken-by Checks.Sound Checks.Sound Nowhere (At x y) whose r p = let z : _≡_ {A = ℕ} 0 1 = cc in absurd (omega arith)
+broken-by Checks.Sound Checks.Sound Nowhere Nowhere whose r p = let z : _≡_ {A = ℕ} 0 1 = cc in absurd (omega arith)
 
 -- the part that a lookup returns, one law for each way out
 module _ (site fleet name : List ℕ) where

@@ -6,5 +6,5 @@ pub mod Finds
 pub mod Files
 pub mod Order
 pub mod Found
-pub mod Smallest
+pub mod Judges
 pub mod Theorem

@@ -1,7 +1,7 @@
 -- The loops over the bytes of names: the bytes passed are right, and those left decide. A turn of each, and each way out. Assumes nothing.
-use Prim.Native.Nat.{ℕ, _+_, _≤_, _<_}
+use Prim.Native.Nat.{ℕ, suc, _+_, _≤_, _<_}
 use mathlib.Core.Path.{_≡_, refl, _∙_}
-use mathlib.Core.Bool.{true, false, cond}
+use mathlib.Core.Bool.{Bool, true, false, cond}
 use mathlib.Core.List.{List, [], _∷_}
 use native.Mathlib.Decide.{decLt}
 use native.Mathlib.Numerals.{add-one}
@@ -68,74 +68,78 @@ module _ {l : List ℕ} {i : ℕ} (k : Lettered l i) where
   unfolding padded
   named-end h = rw (drop-of-length-le l h) at (k .left)
 
--- two names have the same bytes before i, and their byte order is that of the rest
-pub record Ordered (l m : List ℕ) (i : ℕ) : Type 0 where
+-- two names have the same bytes before i, and a test of the two is the test of the bytes left
+pub record Alike (test : List ℕ → List ℕ → Bool) (l m : List ℕ) (i : ℕ) : Type 0 where
   pub upto : i ≤ length l
   pub upto′ : i ≤ length m
-  pub left : below (drop i l) (drop i m) ≡ below l m
+  pub left : test (drop i l) (drop i m) ≡ test l m
 
-module _ {l m : List ℕ} {i : ℕ} (k : Ordered l m i) where
+pub alike-none : (test : List ℕ → List ℕ → Bool) (l m : List ℕ) → Alike test l m 0
+alike-none test l m = record { upto = omega arith; upto′ = omega arith; left = refl }
+
+module _ {test : List ℕ → List ℕ → Bool} {l m : List ℕ} {i : ℕ} (k : Alike test l m i) where
+  alike-end : length l ≤ i → test [] (drop i m) ≡ test l m
+  alike-end h = rw (drop-of-length-le l h) at (k .left)
+
+  module _ (h : i < length l) where
+    alike-short : length m ≤ i → test (getD l i 0 ∷ drop (suc i) l) [] ≡ test l m
+    alike-short j = rw (drop-cons l i 0 h, drop-of-length-le m j) at (k .left)
+
+    module _ (j : i < length m) where
+      alike-bytes : test (getD l i 0 ∷ drop (suc i) l) (getD m i 0 ∷ drop (suc i) m) ≡ test l m
+      alike-bytes = rw (drop-cons l i 0 h, drop-cons m i 0 j) at (k .left)
+
+      alike-turn : test (drop (suc i) l) (drop (suc i) m) ≡ test (getD l i 0 ∷ drop (suc i) l) (getD m i 0 ∷ drop (suc i) m)
+          → Alike test l m (i + 1)
+      alike-turn e = record { upto = omega arith; upto′ = omega arith; left = rw (add-one i) (e ∙ alike-bytes) }
+
+-- byte order
+module _ {l m : List ℕ} {i : ℕ} (k : Alike below l m i) where
   module _ (h : i < length l) where
     pub below-short : length m ≤ i → false ≡ below l m
     unfolding below
-    below-short j = rw (drop-cons l i 0 h, drop-of-length-le m j) at (k .left)
+    below-short j = alike-short k h j
 
     module _ (j : i < length m) where
       pub below-less : getD l i 0 < getD m i 0 → true ≡ below l m
       unfolding below
-      below-less e = rw (drop-cons l i 0 h, drop-cons m i 0 j, lt-ltb (getD l i 0) (getD m i 0) e) at (k .left)
+      below-less e = rw (lt-ltb (getD l i 0) (getD m i 0) e) at (alike-bytes k h j)
 
       pub below-more : getD m i 0 ≤ getD l i 0 → (getD l i 0 ≡ getD m i 0 → ⊥) → false ≡ below l m
       unfolding below
-      below-more e n =
-          rw (drop-cons l i 0 h, drop-cons m i 0 j, le-ltb (getD l i 0) (getD m i 0) e, ne-eqb (getD l i 0) (getD m i 0) n) at (k .left)
+      below-more e n = rw (le-ltb (getD l i 0) (getD m i 0) e, ne-eqb (getD l i 0) (getD m i 0) n) at (alike-bytes k h j)
 
-      pub below-turn : getD l i 0 ≡ getD m i 0 → Ordered l m (i + 1)
+      pub below-turn : getD l i 0 ≡ getD m i 0 → Alike below l m (i + 1)
       unfolding below
-      below-turn e =
-          let stays : ltb (getD l i 0) (getD m i 0) ≡ false = le-ltb (getD l i 0) (getD m i 0) (omega arith) in
-          record {
-            upto = omega arith;
-            upto′ = omega arith;
-            left = rw (add-one i) (rw (drop-cons l i 0 h, drop-cons m i 0 j, stays, eq-eqb (getD l i 0) (getD m i 0) e) at (k .left));
-          }
+      below-turn e = alike-turn k h j (rw (le-ltb (getD l i 0) (getD m i 0) (omega arith), eq-eqb (getD l i 0) (getD m i 0) e))
 
   pub below-end : length l ≤ i → ltb i (length m) ≡ below l m
   unfolding below
-  below-end h = go (decLt i (length m)) ∙ (rw (drop-of-length-le l h) at (k .left))
+  below-end h = go (decLt i (length m)) ∙ alike-end k h
     where
       go : Dec (i < length m) → ltb i (length m) ≡ below [] (drop i m)
       go (yes p) = rw (drop-cons m i 0 p, lt-ltb i (length m) p)
       go (no p) = rw (drop-of-length-le m {i = i} (omega arith), le-ltb i (length m) (omega arith))
 
--- two names have the same bytes before i
-pub record Alike (l m : List ℕ) (i : ℕ) : Type 0 where
-  pub upto : i ≤ length l
-  pub upto′ : i ≤ length m
-  pub left : same (drop i l) (drop i m) ≡ same l m
-
-module _ {l m : List ℕ} {i : ℕ} (k : Alike l m i) where
+-- the same bytes
+module _ {l m : List ℕ} {i : ℕ} (k : Alike same l m i) where
   module _ (h : i < length l) where
     pub same-short : length m ≤ i → false ≡ same l m
     unfolding same
-    same-short j = rw (drop-cons l i 0 h, drop-of-length-le m j) at (k .left)
+    same-short j = alike-short k h j
 
     module _ (j : i < length m) where
       pub same-other : (getD l i 0 ≡ getD m i 0 → ⊥) → false ≡ same l m
       unfolding same
-      same-other n = rw (drop-cons l i 0 h, drop-cons m i 0 j, ne-eqb (getD l i 0) (getD m i 0) n) at (k .left)
+      same-other n = rw (ne-eqb (getD l i 0) (getD m i 0) n) at (alike-bytes k h j)
 
-      pub same-turn : getD l i 0 ≡ getD m i 0 → Alike l m (i + 1)
+      pub same-turn : getD l i 0 ≡ getD m i 0 → Alike same l m (i + 1)
       unfolding same
-      same-turn e = record {
-        upto = omega arith;
-        upto′ = omega arith;
-        left = rw (add-one i) (rw (drop-cons l i 0 h, drop-cons m i 0 j, eq-eqb (getD l i 0) (getD m i 0) e) at (k .left));
-      }
+      same-turn e = alike-turn k h j (rw (eq-eqb (getD l i 0) (getD m i 0) e))
 
   pub same-end : length l ≤ i → eqb i (length m) ≡ same l m
   unfolding same
-  same-end h = go (decLt i (length m)) ∙ (rw (drop-of-length-le l h) at (k .left))
+  same-end h = go (decLt i (length m)) ∙ alike-end k h
     where
       go : Dec (i < length m) → eqb i (length m) ≡ same [] (drop i m)
       go (yes p) = rw (drop-cons m i 0 p, ne-eqb i (length m) (omega arith))

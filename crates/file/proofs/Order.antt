@@ -16,7 +16,7 @@ use Rattle.file.specs.Contents.{below, bodyBytes, nameBytes, nameOf, con
 use Rattle.file.specs.Check.{brokenEntry}
 use Rattle.file.specs.Lookup.{same, seek}
 use Rattle.file.proofs.Checks.{entries-first, entry-kept}
-use Rattle.file.proofs.Files.{contents-cons, head-name, head-rest, head-count, head-offset}
+use Rattle.file.proofs.Files.{name-next, contents-cons, head-name, head-rest, head-count, head-offset}
 
 -- byte order by the first bytes
 below-cases : (a b : ℕ) (l m : List ℕ) → below (a ∷ l) (b ∷ m) ≡ true → (a < b) ⊎ ((a ≡ b) × (below l m ≡ true))
@@ -55,12 +55,6 @@ pub below-self : (l : List ℕ) → below l l ≡ true → ⊥
 unfolding below
 below-self [] p = let z : _≡_ {A = ℕ} 0 1 = cc in omega arith
 below-self (a ∷ l) p = ⊎-elim (λ h. omega arith) (λ h. below-self l (h .1)) (below-cases a a l l p)
-
--- the names after the first are those of the bytes after it
-pub name-next : (names : List ℕ) (i : ℕ) → nameOf names (suc i) ≡ nameOf (drop nameBytes names) i
-name-next names i =
-    let e : suc i * nameBytes ≡ nameBytes + i * nameBytes = omega arith in
-    ap (take nameBytes) (ap (λ (k : ℕ). drop k names) e ∙ sym (drop-drop (i * nameBytes) nameBytes names))
 
 -- each name stands after the one before all, and after each lower one
 above : (before names counts : List ℕ) (k : ℕ) → brokenEntry before names counts k ≡ none

@@ -73,7 +73,7 @@ copied-all {count} {f} {old} {new} {i} {at} k h =
     let z : count - i ≡ 0 = omega arith in
     sym (take-append-drop count new) ∙ (rw (z, e) at (k .filled))
 
--- e of the n entries of a body are passed, and leave so many trees
+-- the first e of the n entries of a body keep their rules, and leave this number of trees
 pub record Scanned (body : List ℕ) (n e trees : ℕ) : Type 0 where
   pub upto : e ≤ n
   pub few : trees ≤ e
@@ -148,7 +148,7 @@ module _ {counts bodies : List ℕ} {b at n end : ℕ} (k : AtBody counts bodies
     same = rw (turned, o) at (k .before .same);
   }
 
--- what is left of a list, as code lends it
+-- the rest of a list, as the code takes it
 pub rest-part : (l : List ℕ) (at : ℕ) → take (length l - at) (drop at l) ≡ drop at l
 rest-part l at = take-all (length l - at) (drop at l) (omega (arith, length-drop at l))
 

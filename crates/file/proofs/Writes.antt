@@ -1,23 +1,28 @@
 -- A turn of each loop of the writer, and the file that its parts make. Assumes nothing.
 use Prim.Native.Nat.{ℕ, _+_, _-_, _*_, _≤_, _<_}
 use mathlib.Core.Path.{_≡_, refl, sym, ap, _∙_}
+use mathlib.Core.Logic.{_⊎_, _↔_, inl, inr, ⊎-elim}
+use mathlib.Core.Bool.{Bool, true, false, cond}
 use mathlib.Core.List.{List, [], _∷_, _++_, append-nil, append-assoc}
 use native.Mathlib.Numerals.{add-one}
 use native.Mathlib.Omega.{arith}
+use lib.Dec.{leb}
 use lib.ListN.{length, getD, take, drop, set, length-append, length-take, length-drop, drop-of-length-le}
 use lib.Seq.{take-length, drop-cons, drop-drop, length-take-le, take-all, take-at, drop-at, sets, sets-eq}
-use borrow.Author.Tests.{le-leb, lt-leb}
+use borrow.Author.Tests.{le-leb, lt-leb, leb-false}
 use borrow.Rule.Slice.PartMut.{midOf, putMid, same-len-mid, mid-len}
 use Rattle.refusal.specs.declared.Refusal.{Refusal}
 use Rattle.refusal.specs.declared.Refusal.the-variants.{Room}
 use Rattle.body.specs.Bytes.{bytesOf}
 use Rattle.body.proofs.Bytes.{length-bytes}
+use Rattle.file.specs.declared.FileCheck.{FileCheck}
 use Rattle.file.specs.declared.FileCheck.the-variants as Checks
 use Rattle.file.specs.declared.Writing.the-variants.{Written, Refused}
 use Rattle.file.specs.Contents.{bodyBytes, nameBytes, contentsBytes, bodiesAt, contentOf, contents, fileOf}
 use Rattle.file.specs.Check.{partsCheck}
 use Rattle.file.specs.Ready.{Few}
-use Rattle.file.specs.Write.{writingOf, Wrote}
+use Rattle.file.specs.Write.{ifSound, inRoom, writingOf, Wrote}
+use Rattle.file.specs.Claim.{PartsOf}
 use Rattle.file.proofs.Checks.{parts-sound}
 
 -- bytes copied over a part that is no longer than they are
@@ -164,3 +169,37 @@ module _ (names counts bodies old : List ℕ) where
           (omega (arith, ap length r)) h
           ∙ rw (q, r) refl;
     }
+
+-- if the writer says that it wrote, its parts are accepted and the bytes are those of the file
+written-by : (c : FileCheck) (needed room n : ℕ) → Written n ≡ ifSound c (inRoom needed room) → (c ≡ Checks.Sound) × (needed ≡ n)
+written-by (Checks.Refused r) needed room n p = let z : _≡_ {A = ℕ} 0 1 = cc in absurd (omega arith)
+written-by Checks.Sound needed room n p = go (leb needed room) p
+  where
+    go : (t : Bool) → Written n ≡ cond t (Written needed) (Refused (Room needed)) → (Checks.Sound ≡ Checks.Sound) × (needed ≡ n)
+    go true q = (refl, cc)
+    go false q = let z : _≡_ {A = ℕ} 0 1 = cc in absurd (omega arith)
+
+pub wrote-parts : (names counts bodies old new : List ℕ) (n : ℕ) → Wrote names counts bodies old new (Written n)
+    → PartsOf (take n new) names counts bodies
+unfolding writingOf
+wrote-parts names counts bodies old new n w =
+    let f : List ℕ = fileOf names counts bodies in
+    let b = written-by (partsCheck names counts bodies) (length f) (length old) n (w .answer) in
+    record { sound = b .0; same = ap (take n) (w .later) ∙ take-at f (drop n old) n (b .1) }
+
+-- what the writer refuses
+pub refused-by : (c : FileCheck) (needed room : ℕ) (r : Refusal)
+    → ifSound c (inRoom needed room) ≡ Refused r ↔ ((c ≡ Checks.Refused r) ⊎ ((c ≡ Checks.Sound) × (room < needed) × (r ≡ Room needed)))
+refused-by (Checks.Refused s) needed room r = (
+  λ p. inl cc,
+  ⊎-elim (λ q. let e : s ≡ r = cc in ap Refused e) (λ q. let h = q .0 in let z : _≡_ {A = ℕ} 0 1 = cc in absurd (omega arith)),
+)
+refused-by Checks.Sound needed room r = (
+  λ p. go (leb needed room) refl p,
+  ⊎-elim (λ q. let z : _≡_ {A = ℕ} 0 1 = cc in absurd (omega arith)) (λ q. rw (lt-leb needed room (q .1), q .2)),
+)
+  where
+    go : (t : Bool) → leb needed room ≡ t → cond t (Written needed) (Refused (Room needed)) ≡ Refused r
+        → (Checks.Sound ≡ Checks.Refused r) ⊎ ((Checks.Sound ≡ Checks.Sound) × (room < needed) × (r ≡ Room needed))
+    go true e p = let z : _≡_ {A = ℕ} 0 1 = cc in absurd (omega arith)
+    go false e p = inr (refl, leb-false needed room e, cc)

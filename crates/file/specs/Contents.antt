@@ -1,9 +1,9 @@
--- A pattern file: the count, the contents, then the bodies (document 01, "Pattern file"). Assumes nothing: these are definitions.
+-- A pattern file: the count, the contents, then the bodies (docs/RULES.md, "Pattern files"). Assumes nothing: these are definitions.
 use Prim.Native.Nat.{ℕ, _+_, _*_}
 use mathlib.Core.Bool.{Bool, true, false, cond}
 use mathlib.Core.List.{List, [], _∷_, _++_}
 use lib.Dec.{ltb, leb, eqb}
-use lib.ListN.{length, take, drop}
+use lib.ListN.{length, getD, take, drop}
 use Rattle.rules.specs.Limits.{argumentBytes}
 use Rattle.body.specs.Bytes.{bytesOf}
 
@@ -26,29 +26,29 @@ unfoldable pub named : List ℕ → Bool
 named [] = false
 named (c ∷ l) = cond (nameByte c) (padded l) false
 
--- strictly before in byte order
+-- the first stands strictly before the second in byte order
 unfoldable pub below : List ℕ → List ℕ → Bool
 below [] [] = false
 below [] (d ∷ m) = true
 below (c ∷ l) [] = false
 below (c ∷ l) (d ∷ m) = cond (ltb c d) true (cond (eqb c d) (below l m) false)
 
--- the bytes of a body of n entries
+-- how many bytes a body of n entries has
 abbrev pub bodyBytes : ℕ → ℕ
 bodyBytes n = n * (argumentBytes + 1)
 
--- bytes of a name, and of an entry of the contents
+-- how many bytes a name has, and an entry of the contents
 abbrev pub nameBytes : ℕ
 nameBytes = 8
 
 abbrev pub contentsBytes : ℕ
 contentsBytes = 12
 
--- where the bodies begin
+-- where the bodies begin in a file of `count` patterns
 abbrev pub bodiesAt : ℕ → ℕ
 bodiesAt count = 1 + contentsBytes * count
 
--- name number i of names end to end
+-- name number i, of names given end to end
 abbrev pub nameOf : List ℕ → ℕ → List ℕ
 nameOf names i = take nameBytes (drop (i * nameBytes) names)
 
@@ -56,16 +56,24 @@ nameOf names i = take nameBytes (drop (i * nameBytes) names)
 abbrev pub contentOf : List ℕ → ℕ → ℕ → List ℕ
 contentOf name offset n = name ++ (bytesOf 2 offset ++ (n ∷ 0 ∷ []))
 
--- the contents: each body begins where the previous ends
+-- the contents: an entry for each name and number of entries, where each body begins where the one before it ends
 unfoldable pub contents : List ℕ → List ℕ → ℕ → List ℕ
 contents names [] offset = []
 contents names (n ∷ counts) offset = contentOf (take nameBytes names) offset n ++ contents (drop nameBytes names) counts (offset + bodyBytes n)
 
--- the file of names, numbers of entries (one a pattern) and bodies end to end
+-- the file that has these names, numbers of entries (one for each pattern) and bodies, all given end to end
 abbrev pub fileOf : List ℕ → List ℕ → List ℕ → List ℕ
 fileOf names counts bodies = length counts ∷ (contents names counts (bodiesAt (length counts)) ++ bodies)
 
--- the bytes of all bodies
+-- how many bytes all bodies have
 unfoldable pub total : List ℕ → ℕ
 total [] = 0
 total (n ∷ counts) = bodyBytes n + total counts
+
+-- where body number i begins in a file
+abbrev pub bodyAt : List ℕ → ℕ → ℕ
+bodyAt counts i = bodiesAt (length counts) + total (take i counts)
+
+-- body number i, of bodies given end to end
+abbrev pub bodyOf : List ℕ → List ℕ → ℕ → List ℕ
+bodyOf counts bodies i = take (bodyBytes (getD counts i 0)) (drop (total (take i counts)) bodies)

@@ -3,4 +3,5 @@ pub mod Check
 pub mod Ready
 pub mod Write
 pub mod Lookup
+pub mod Judged
 pub mod Claim

@@ -1,4 +1,5 @@
--- Lookup of a name in a site file and a fleet file, site first (refusals 4, 5, 6, 7 of a file, site examined first, then 15).
+-- The lookup of a name in a site file and a fleet file, the site file first: refusals 4, 5, 6, 7 of each file, then 15 (docs/RULES.md, "Pattern files" and
+-- "Refusals").
 -- Assumes nothing: these are definitions.
 use Prim.Native.Nat.{ℕ, zero, suc}
 use mathlib.Core.Bool.{Bool, true, false, cond}
@@ -18,14 +19,14 @@ use Rattle.file.specs.declared.Finding.the-variants.{Found, Broken, Refu
 use Rattle.file.specs.Contents.{bodyBytes, nameBytes, contentsBytes}
 use Rattle.file.specs.Check.{checkOf}
 
--- the same bytes, as many as each other
+-- whether two names have the same length and the same bytes
 unfoldable pub same : List ℕ → List ℕ → Bool
 same [] [] = true
 same [] (d ∷ m) = false
 same (c ∷ l) [] = false
 same (c ∷ l) (d ∷ m) = cond (eqb c d) (same l m) false
 
--- the offset and the bytes of the body with a name, among k entries of the contents
+-- where the body with a name begins and how many bytes it has, by the k entries that contents begin with
 unfoldable pub seek : List ℕ → List ℕ → ℕ → Place
 seek c name zero = Nowhere
 seek c name (suc k) = cond (same (take nameBytes c) name) (At (valueAt 2 c 8) (bodyBytes (getD c 10 0))) (seek (drop contentsBytes c) name k)
@@ -43,7 +44,7 @@ abbrev pub ifSound : FileCheck → Whose → Finding → Finding
 ifSound Checks.Sound whose answer = answer
 ifSound (Checks.Refused r) whose answer = Broken whose r
 
--- the answer of a lookup: a refused file, site examined first; then the site's body, then the fleet's, then Absent
+-- the answer of a lookup: a file that is refused, the site file first; else the body in the site file, else that in the fleet file, else Absent
 unfoldable pub findingOf : List ℕ → List ℕ → List ℕ → Finding
 findingOf site fleet name =
     ifSound (checkOf site) Site (ifSound (checkOf fleet) Fleet (inFile (placed site name) Site (inFile (placed fleet name) Fleet (Refused Absent))))

@@ -1,4 +1,4 @@
--- What the parts of the check and of the writer ask for. Assumes nothing: these are definitions.
+-- What the inner functions of the check and of the writer require. Assumes nothing: these are definitions.
 use Prim.Native.Nat.{ℕ, _*_, _≤_}
 use mathlib.Core.Path.{_≡_}
 use mathlib.Core.List.{List}
@@ -23,12 +23,12 @@ Named names counts = length names ≡ nameBytes * length counts
 abbrev pub Whole : List ℕ → List ℕ → Type 0
 Whole counts bodies = length bodies ≡ total counts
 
--- a name, and the bytes of an entry of the contents
+-- a name, and the slice for its entry of the contents
 pub record EntryReady (name entry : List ℕ) : Type 0 where
   pub named : length name ≡ nameBytes
   pub long : length entry ≡ contentsBytes
 
--- names, and the bytes of their contents
+-- names with their numbers of entries, and the slice for their contents
 pub record ContentsReady (names counts part : List ℕ) : Type 0 where
   pub few : Few counts
   pub named : Named names counts

@@ -1,4 +1,5 @@
--- What the writer answers, and the slice afterwards (refusals 4, 5, 6, 7, then 8). Assumes nothing: these are definitions.
+-- What the writer answers, and its slice afterwards: refusals 4, 5, 6, 7, then 8 (docs/RULES.md, "Pattern files" and "Refusals").
+-- Assumes nothing: these are definitions.
 use Prim.Native.Nat.{ℕ}
 use mathlib.Core.Path.{_≡_}
 use mathlib.Core.Bool.{cond}
@@ -17,15 +18,15 @@ abbrev pub ifSound : FileCheck → Writing → Writing
 ifSound Checks.Sound answer = answer
 ifSound (Checks.Refused r) answer = Refused r
 
--- the bytes written, or Room with the length needed
+-- the number of bytes written, or Room with the length needed
 abbrev pub inRoom : ℕ → ℕ → Writing
 inRoom needed room = cond (leb needed room) (Written needed) (Refused (Room needed))
 
--- the answer: the parts' refusal, then Room with the length needed, else the bytes written
+-- the answer: the refusal of the parts, then Room with the length needed, else the number of bytes written
 unfoldable pub writingOf : List ℕ → List ℕ → List ℕ → ℕ → Writing
 writingOf names counts bodies room = ifSound (partsCheck names counts bodies) (inRoom (length (fileOf names counts bodies)) room)
 
--- the slice afterwards: the file and what lies beyond it, or all as it was
+-- the slice afterwards: the file and then what stood there before, or, after a refusal, all as it was
 abbrev pub after : Writing → List ℕ → List ℕ → List ℕ
 after (Written n) file old = file ++ drop n old
 after (Refused r) file old = old

@@ -46,7 +46,7 @@ fn check_contents(count: usize, rest: &[u8]) -> FileCheck
     ensures { λ r. ⌜ r ≡ onEntry (brokenContent [] (now (rest .entry)) count (bodiesAt count) 0) Sound ⌝ }
 {
     let mut i: usize = 0;
-    // from `from` to `to` is the name before, no bytes before the first
+    // the name before this entry stands from `from` to `to`; no bytes before the first
     let mut from: usize = 0;
     let mut to: usize = 0;
     let mut at: usize = 0;
@@ -64,7 +64,7 @@ fn check_contents(count: usize, rest: &[u8]) -> FileCheck
     FileCheck::Sound
 }
 
-// Whether the entry that contents begin with keeps its rules, where its body is to begin at an offset.
+// Whether the entry that `contents` begins with keeps its rules, where its body begins at `offset`.
 fn content_kept(before: &[u8], contents: &[u8], offset: usize) -> bool
     requires { ⌜ 12 ≤ length (now contents) ⌝ }
     ensures { λ r. ⌜ r ≡ contentKept (now (before .entry)) (now (contents .entry)) offset ⌝ }
@@ -79,7 +79,7 @@ fn content_kept(before: &[u8], contents: &[u8], offset: usize) -> bool
     contents[11] == 0
 }
 
-// The offset that the first entry of contents gives.
+// The offset in the entry that `contents` begins with.
 pub(crate) fn offset_of(contents: &[u8]) -> usize
     requires { ⌜ 12 ≤ length (now contents) ⌝ }
     ensures { λ r. ⌜ r ≡ valueAt 2 (now (contents .entry)) 8 ⌝ }

@@ -10,7 +10,7 @@ ghost use Rattle.file.specs.declared.FileCheck.the-variants.{Sound};
 ghost use Rattle.file.specs.Check.{checkOf};
 ghost use Rattle.file.specs.Lookup.{same, placed};
 
-// Where in a sound file the body with a name is.
+// Where the body with this name is in a sound file.
 pub(crate) fn find(file: &[u8], name: &[u8]) -> Place
     requires { ⌜ checkOf (now file) ≡ Sound ⌝ }
     ensures { λ r. ⌜ r ≡ placed (now (file .entry)) (now (name .entry)) ⌝ }
@@ -31,7 +31,7 @@ pub(crate) fn find(file: &[u8], name: &[u8]) -> Place
     Place::Nowhere
 }
 
-// Whether two names have the same bytes, as many as each other.
+// Whether two names have the same length and the same bytes.
 fn is_same(a: &[u8], b: &[u8]) -> bool
     ensures { λ r. ⌜ r ≡ same (now (a .entry)) (now (b .entry)) ⌝ }
 {

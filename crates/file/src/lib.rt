@@ -11,7 +11,7 @@ ghost use Rattle.file.specs.Check.{checkOf};
 ghost use Rattle.file.specs.Write.{Wrote};
 ghost use Rattle.file.specs.Lookup.{findingOf, partOf};
 
-// The bytes of a name, and of an entry of the contents.
+// How many bytes a name has, and an entry of the contents.
 pub const NAME_BYTES: usize = 8;
 
 pub const CONTENT_BYTES: usize = 12;
@@ -22,26 +22,26 @@ pub enum FileCheck {
     Refused(Refusal),
 }
 
-// What the writer answers: the bytes written.
+// What the writer answers: the number of bytes written, or a refusal.
 pub enum Writing {
     Written(usize),
     Refused(Refusal),
 }
 
-// Which of the two files that a lookup is given.
+// One of the two files of a lookup.
 pub enum Whose {
     Site,
     Fleet,
 }
 
-// Where in a file the body with a name is: from which byte, how many bytes.
+// Where a body is in a file: at which byte it begins, and how many bytes it has.
 pub enum Place {
     Nowhere,
     At(usize, usize),
 }
 
-// Where a lookup found its body: in which file, from which byte, how many bytes. A file that is refused is named with its refusal; a name that
-// is in neither is refused as Absent.
+// What a lookup answers: the file that has the body, the byte at which the body begins, and how many bytes it has; or the file that is refused, with
+// its refusal; or Absent if the name is in neither file.
 pub enum Finding {
     Found(Whose, usize, usize),
     Broken(Whose, Refusal),
@@ -58,7 +58,7 @@ pub fn check_file(file: &[u8]) -> FileCheck
     contents::check_rest(parts::wide(file[0]), &file[1..])
 }
 
-// Writes the file of names, numbers of entries (one a pattern) and bodies end to end. Nothing is written unless all is accepted and there is room.
+// Writes the file of these names, numbers of entries (one for each pattern) and bodies, all given end to end. A refusal leaves the slice as it was.
 pub fn write_file(names: &[u8], counts: &[u8], bodies: &[u8], file: &mut [u8]) -> Writing
     ensures { λ r. ⌜ Wrote (now (names .entry)) (now (counts .entry)) (now (bodies .entry)) (now (file .entry)) (now (file .exit)) r ⌝ }
 {
@@ -78,7 +78,7 @@ pub fn write_file(names: &[u8], counts: &[u8], bodies: &[u8], file: &mut [u8]) -
     }
 }
 
-// The body with a name, as the part of the site file or of the fleet file that it is; the empty part where there is none.
+// The body with this name, as a part of the site file or of the fleet file; an empty part if there is none. `looked_up` says why.
 pub fn lookup<'a>(site: &'a [u8], fleet: &'a [u8], name: &[u8]) -> &'a [u8]
     ensures { λ r. ⌜ now r ≡ partOf (findingOf (now (site .entry)) (now (fleet .entry)) (now (name .entry))) (now (site .entry)) (now (fleet .entry)) ⌝ }
 {
@@ -92,7 +92,7 @@ pub fn lookup<'a>(site: &'a [u8], fleet: &'a [u8], name: &[u8]) -> &'a [u8]
     }
 }
 
-// Where the body with a name is, site first; a refused file, site examined first, or Absent.
+// Where the body with this name is. The site file is checked first and searched first.
 pub fn looked_up(site: &[u8], fleet: &[u8], name: &[u8]) -> Finding
     ensures { λ r. ⌜ r ≡ findingOf (now (site .entry)) (now (fleet .entry)) (now (name .entry)) ⌝ }
 {

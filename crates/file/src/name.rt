@@ -1,4 +1,4 @@
-// Names: whether bytes are one, and their byte order.
+// Names: their form, and their byte order.
 ghost use mathlib.Core.Path.{_≡_};
 ghost use Prim.Native.Nat.{_≤_};
 ghost use lib.ListN.{length, drop};
@@ -37,7 +37,7 @@ fn is_name_byte(c: u8) -> bool
     false
 }
 
-// Whether only spaces follow from a place on.
+// Whether there are only spaces from `from` on.
 fn are_spaces(name: &[u8], from: usize) -> bool
     requires { ⌜ from ≤ length (now name) ⌝ }
     ensures { λ r. ⌜ r ≡ spaces (drop from (now (name .entry))) ⌝ }

@@ -1,4 +1,4 @@
-// The rules that a file and the parts given to the writer share: on an entry of the contents, and on the bodies.
+// The check of the parts given to the writer. A file is held to the same rules on each entry and on the bodies.
 use crate::FileCheck;
 use crate::NAME_BYTES;
 use crate::name;
@@ -16,7 +16,7 @@ ghost use Rattle.file.specs.Contents.{total};
 ghost use Rattle.file.specs.Check.{entryKept, onEntry, brokenEntry, brokenBody, bodiesCheck, partsCheck};
 ghost use Rattle.file.specs.Ready.{Few, Named, Whole};
 
-// Checks the names, the numbers of entries and the bodies that a writer is given.
+// Checks the names, the numbers of entries and the bodies given to the writer.
 pub(crate) fn check_parts(names: &[u8], counts: &[u8], bodies: &[u8]) -> FileCheck
     ensures { λ r. ⌜ r ≡ partsCheck (now (names .entry)) (now (counts .entry)) (now (bodies .entry)) ⌝ }
 {
@@ -41,7 +41,7 @@ fn check_entries(names: &[u8], counts: &[u8]) -> FileCheck
     ensures { λ r. ⌜ r ≡ onEntry (brokenEntry [] (now (names .entry)) (now (counts .entry)) 0) Sound ⌝ }
 {
     let mut i: usize = 0;
-    // from `from` to `at` is the name before, no bytes before the first
+    // the name before this one stands from `from` to `at`; no bytes before the first
     let mut from: usize = 0;
     let mut at: usize = 0;
     while i < counts.len() {
@@ -71,7 +71,7 @@ pub(crate) fn entry_kept(before: &[u8], name: &[u8], n: u8) -> bool
     n as usize <= MOST_ENTRIES
 }
 
-// Checks bodies that lie end to end: that they end where their numbers of entries say, and each of them.
+// Checks bodies given end to end: that they end where the numbers of entries say, and then each body.
 pub(crate) fn check_bodies(counts: &[u8], bodies: &[u8]) -> FileCheck
     requires { ⌜ Few (now counts) ⌝ }
     ensures { λ r. ⌜ r ≡ bodiesCheck (now (counts .entry)) (now (bodies .entry)) ⌝ }
@@ -82,7 +82,7 @@ pub(crate) fn check_bodies(counts: &[u8], bodies: &[u8]) -> FileCheck
     broken_body(counts, bodies)
 }
 
-// The bytes of all bodies.
+// How many bytes all bodies have.
 fn all_bytes(counts: &[u8]) -> usize
     requires { ⌜ Few (now counts) ⌝ }
     ensures { λ r. ⌜ r ≡ total (now (counts .entry)) ⌝ }

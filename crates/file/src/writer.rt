@@ -8,7 +8,7 @@ ghost use lib.ListN.{length};
 ghost use Rattle.file.specs.Contents.{contentOf, contents, bodiesAt};
 ghost use Rattle.file.specs.Ready.{EntryReady, ContentsReady};
 
-// Writes the contents: an entry for each name and number of entries, each body beginning where the previous ends.
+// Writes the contents: an entry for each name and number of entries. Each body begins where the one before it ends.
 pub(crate) fn write_contents(names: &[u8], counts: &[u8], part: &mut [u8])
     requires { ⌜ ContentsReady (now names) (now counts) (now part) ⌝ }
     ensures { λ _. ⌜ now (part .exit) ≡ contents (now (names .entry)) (now (counts .entry)) (bodiesAt (length (now (counts .entry)))) ⌝ }

@@ -1,22 +1,22 @@
 -- `file::finder::is_same` meets its contract: the bytes left decide, as far as both names are the same. The measure is the number of bytes left.
 -- Assumes nothing.
 use Prim.Native.Nat.{_-_}
-use mathlib.Core.Path.{refl}
 use native.Mathlib.Omega.{arith}
 use lib.ListN.{length}
-use Rattle.file.proofs.Names.{Alike, same-short, same-other, same-turn, same-end}
+use Rattle.file.specs.Lookup.{same}
+use Rattle.file.proofs.Names.{Alike, alike-none, same-short, same-other, same-turn, same-end}
 use borrow.Author.Needs.{needs}
 use Rattle.file.proofs.finder.is_same.Statement.{statement}
 use Rattle.file.proofs.finder.is_same.Tie as tie
 
 abbrev Inv-loop : tie.InvT-loop
-Inv-loop a b i₀ i = Alike a b i
+Inv-loop a b i₀ i = Alike same a b i
 
 abbrev μ-loop : tie.MeasureT-loop
 μ-loop a b i₀ i = length a - i
 
 loop-holds : tie.Need-loop-holds Inv-loop μ-loop
-loop-holds c = record { upto = omega arith; upto′ = omega arith; left = refl }
+loop-holds c = alike-none same _ _
 
 returns : tie.Need-returns Inv-loop μ-loop
 returns c = same-short (c .before .before .loop .inv) (omega arith) (c .if1 .taken)

@@ -1,22 +1,22 @@
 -- `file::name::is_below` meets its contract: the bytes left decide, as far as both names are the same. The measure is the number of bytes left.
 -- Assumes nothing.
 use Prim.Native.Nat.{_-_}
-use mathlib.Core.Path.{refl}
 use native.Mathlib.Omega.{arith}
 use lib.ListN.{length}
-use Rattle.file.proofs.Names.{Ordered, below-short, below-less, below-more, below-turn, below-end}
+use Rattle.file.specs.Contents.{below}
+use Rattle.file.proofs.Names.{Alike, alike-none, below-short, below-less, below-more, below-turn, below-end}
 use borrow.Author.Needs.{needs}
 use Rattle.file.proofs.name.is_below.Statement.{statement}
 use Rattle.file.proofs.name.is_below.Tie as tie
 
 abbrev Inv-loop : tie.InvT-loop
-Inv-loop before name i₀ i = Ordered before name i
+Inv-loop before name i₀ i = Alike below before name i
 
 abbrev μ-loop : tie.MeasureT-loop
 μ-loop before name i₀ i = length before - i
 
 loop-holds : tie.Need-loop-holds Inv-loop μ-loop
-loop-holds c = record { upto = omega arith; upto′ = omega arith; left = refl }
+loop-holds c = alike-none below _ _
 
 returns : tie.Need-returns Inv-loop μ-loop
 returns c = below-short (c .before .before .loop .inv) (omega arith) (c .if1 .taken)

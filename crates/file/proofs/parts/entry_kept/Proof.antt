@@ -34,11 +34,11 @@ returns-2 c = rw (name-well (c .before .before), sym (c .before .is-below .ensur
 
 returns-3 : tie.Need-returns-3
 unfolding entryKept
-returns-3 c = rw (name-well (c .before .before .before), name-rises (c .before), lt-leb _ _ (c .if3 .taken))
+returns-3 c = rw (name-well (c .before .before .before), name-rises (c .before), lt-leb 1 _ (c .if3 .taken))
 
 returns-4 : tie.Need-returns-4
 unfolding entryKept
-returns-4 c = rw (name-well (c .before .before .before), name-rises (c .before), le-leb _ _ (c .if3 .left))
+returns-4 c = rw (name-well (c .before .before .before), name-rises (c .before), le-leb 1 _ (c .if3 .left))
 
 pub entry-kept-spec : {M : Type 1} → statement M
 entry-kept-spec =
