@@ -12,7 +12,7 @@ use reader::Reach;
 use reader::SMALL;
 use refusal::Refusal;
 ghost use mathlib.Core.Path.{_≡_};
-ghost use Rattle.text.specs.Machine.{letterOf, digitOf};
+ghost use Rattle.text.specs.Characters.{letterOf, digitOf};
 ghost use Rattle.text.specs.Answer.{ReadingOf, PrintingOf};
 
 // The bytes that a text may have.
