@@ -4,7 +4,7 @@ use mathlib.Core.Path.{_≡_, refl, ap}
 use mathlib.Core.Logic.{inl, inr}
 use mathlib.Core.List.{List, [], _∷_, _++_}
 use Prim.Native.Nat.{ℕ, suc, _+_, _≤_, max}
-use native.Mathlib.Decide.{decLe, decLt, ℕ-discrete}
+use native.Mathlib.Decide.{decLt, ℕ-discrete}
 use native.Mathlib.Omega.{arith}
 use lib.ListN.{length, length-append}
 use Rattle.rules.specs.declared.Op.the-variants.{Either, Both, Without, Chain}
@@ -14,7 +14,7 @@ use Rattle.rules.specs.Pattern.{Pattern, event, pair, within}
 use Rattle.rules.proofs.Lists.{in-cases, in-one, in-two, all-map}
 use Rattle.detector.specs.Memory.{Span, none, Memory, fresh}
 use Rattle.detector.specs.Possible.{startsOf, starts, p}
-use Rattle.detector.specs.Step.{later, answer, next}
+use Rattle.detector.specs.Step.{startingAt, pairAt, later, shortEnough, unblocked, answer, next}
 use Rattle.detector.specs.Form.{Fits, Form}
 use Rattle.detector.proofs.Decisions.{pick-cases}
 use Rattle.detector.proofs.Choice.{choose-all, gather-all}
@@ -63,17 +63,17 @@ starts-le τ (within x n) m f σ i = starts-le τ x m f σ i
 -- an answer starts at the tick or before
 pub answer-le : (t w τ : ℕ) → τ ≤ t → (e : Pattern) (m : Memory e) → Form τ e m → answer e m t w ≤ suc t
 unfolding answer
-answer-le t w τ k (event n) m f = pick-cases (λ a. a ≤ suc t) (ℕ-discrete (bit w n) 1) (suc t) 0 (λ d. omega arith) (λ d. omega arith)
+answer-le t w τ k (event n) m f = pick-cases (λ a. a ≤ suc t) (ℕ-discrete (bit w n) 1) (startingAt t) 0 (λ d. omega arith) (λ d. omega arith)
 answer-le t w τ k (pair Either x y) m f = omega (arith, answer-le t w τ k x (m .0) (f .0), answer-le t w τ k y (m .1) (f .1))
 answer-le t w τ k (pair Both x y) m f = omega (arith, answer-le t w τ k x (m .0) (f .0), answer-le t w τ k y (m .1) (f .1))
 answer-le t w τ k (pair Without x y) m f =
-    pick-cases (λ a. a ≤ suc t) (decLt (max (m .2) (answer y (m .1) t w)) (answer x (m .0) t w)) (answer x (m .0) t w) 0
+    pick-cases (λ a. a ≤ suc t) (unblocked (max (m .2) (answer y (m .1) t w)) (answer x (m .0) t w)) (answer x (m .0) t w) 0
     (λ d. answer-le t w τ k x (m .0) (f .0)) (λ d. omega arith)
 answer-le t w τ k (pair Chain x y) m f =
     let c = choose-all (Fits τ) (none-fits τ) (m .2 ∷ m .3) (answer y (m .1) t w) (f .2, f .3) in
     omega (arith, c .0, c .1)
 answer-le t w τ k (within x n) m f =
-    pick-cases (λ a. a ≤ suc t) (decLe (suc t) (answer x m t w + n)) (answer x m t w) 0 (λ d. answer-le t w τ k x m f) (λ d. omega arith)
+    pick-cases (λ a. a ≤ suc t) (shortEnough n t (answer x m t w)) (answer x m t w) 0 (λ d. answer-le t w τ k x m f) (λ d. omega arith)
 
 -- there are at most p possible starts
 startsOf-length : (l : List Span) → length (startsOf l) ≡ length l
@@ -106,7 +106,7 @@ fits-suc τ t k q f = (f .0, omega (arith, f .1), f .2)
 later-fits : (τ t a : ℕ) → τ ≤ t → a ≤ suc t → (q : Span) → Fits τ q → Fits (suc t) (later q a t)
 unfolding later
 later-fits τ t a k j q f =
-    pick-cases (Fits (suc t)) (decLt (q .start) a) (record { start = a; end = suc t }) q
+    pick-cases (Fits (suc t)) (decLt (q .start) a) (pairAt t a) q
     (λ d. (j, omega arith, λ e. absurd (omega arith)))
     (λ d. fits-suc τ t k q f)
 
@@ -127,14 +127,15 @@ in-form t w τ k (pair Without x y) m f = (
   omega (arith, f .2, answer-le t w τ k y (m .1) (f .1)),
 )
 in-form t w τ k (pair Chain x y) m f =
-    let old = m .2 ∷ m .3 in
-    let ss = starts y (next y (m .1) t w) in
-    let fy = in-form t w τ k y (m .1) (f .1) in (
+    let fy = in-form t w τ k y (m .1) (f .1) in
+    let latest = fits-suc τ t k (m .2) (f .2) in
+    let kept = all-map (m .3) (fits-suc τ t k) (f .3) in
+    let new = later-fits τ t (answer x (m .0) t w) k (answer-le t w τ k x (m .0) (f .0)) (m .2) (f .2) in (
       in-form t w τ k x (m .0) (f .0),
       fy,
-      later-fits τ t (answer x (m .0) t w) k (answer-le t w τ k x (m .0) (f .0)) (m .2) (f .2),
-      gather-all (Fits (suc t)) (none-fits (suc t)) old ss (fits-suc τ t k (m .2) (f .2), all-map (m .3) (fits-suc τ t k) (f .3)),
-      gather-sorted old ss,
-      omega (arith, gather-length old ss, length-starts (suc t) y (next y (m .1) t w) fy),
+      new,
+      search (gather-all (Fits (suc t)) (none-fits (suc t))),
+      search gather-sorted,
+      search (gather-length, length-starts),
     )
 in-form t w τ k (within x n) m f = in-form t w τ k x m f

@@ -10,7 +10,7 @@ use Rattle.rules.specs.Bits.{bit}
 use Rattle.rules.specs.Decisions.{pick}
 use Rattle.rules.specs.Instances.{Record, Instances, Occurs, Rule, Short, Latest}
 use Rattle.detector.specs.Memory.{Span}
-use Rattle.detector.specs.Step.{later}
+use Rattle.detector.specs.Step.{startingAt, pairAt, later, shortEnough, unblocked}
 use Rattle.detector.proofs.Decisions.{pick-cases}
 use Rattle.detector.proofs.Good.{Top, Real}
 
@@ -18,13 +18,13 @@ use Rattle.detector.proofs.Good.{Top, Real}
 pub later-start : (p : Span) (a t : ℕ) → later p a t .start ≡ max (p .start) a
 unfolding later
 later-start p a t =
-    pick-cases (λ q. q .start ≡ max (p .start) a) (decLt (p .start) a) (record { start = a; end = suc t }) p (λ h. omega arith) (λ h. omega arith)
+    pick-cases (λ q. q .start ≡ max (p .start) a) (decLt (p .start) a) (pairAt t a) p (λ h. omega arith) (λ h. omega arith)
 
 -- and is an instance still
 pub later-real : {X : Instances} (p : Span) (a t : ℕ) → Real X t p → Latest X t a → Real X (suc t) (later p a t)
 unfolding later
 later-real {X} p a t h l =
-    pick-cases (Real X (suc t)) (decLt (p .start) a) (record { start = a; end = suc t }) p
+    pick-cases (Real X (suc t)) (decLt (p .start) a) (pairAt t a) p
     (λ k s e. (t, refl, omega arith, l .real s e))
     (λ k s e. let b = h s e in (b .0, b .1, omega (arith, b .2), b .3))
 
@@ -44,9 +44,9 @@ top-step {X} {t} {a} {b} h l c q = record {
     of s e (no d) = (t, omega arith, l .real s (omega arith))
 
 -- a letter
-pub event-latest : (r : Record) (n t w : ℕ) → r t ≡ w → Latest (Occurs r n) t (pick (ℕ-discrete (bit w n) 1) (suc t) 0)
+pub event-latest : (r : Record) (n t w : ℕ) → r t ≡ w → Latest (Occurs r n) t (pick (ℕ-discrete (bit w n) 1) (startingAt t) 0)
 event-latest r n t w q =
-    pick-cases (Latest (Occurs r n) t) (ℕ-discrete (bit w n) 1) (suc t) 0
+    pick-cases (Latest (Occurs r n) t) (ℕ-discrete (bit w n) 1) (startingAt t) 0
     (λ h. record { bound = λ s x. omega (arith, x .0); real = λ s e. (omega arith, ap (λ (v : ℕ). bit v n) q ∙ h) })
     (λ h. record { bound = λ s x. absurd (h (ap (λ (v : ℕ). bit v n) (sym q) ∙ x .1)); real = λ s e. absurd (omega arith) })
 
@@ -63,16 +63,16 @@ either-latest {X} {Y} {t} {a} {b} l k = record { bound = at; real = λ s e. of s
     of s e (no d) = inr (k .real s (omega arith))
 
 -- `@`
-pub within-latest : {X : Instances} {t a : ℕ} (n : ℕ) → Latest X t a → Latest (Short n X) t (pick (decLe (suc t) (a + n)) a 0)
+pub within-latest : {X : Instances} {t a : ℕ} (n : ℕ) → Latest X t a → Latest (Short n X) t (pick (shortEnough n t a) a 0)
 within-latest {X} {t} {a} n l =
-    pick-cases (Latest (Short n X) t) (decLe (suc t) (a + n)) a 0
+    pick-cases (Latest (Short n X) t) (shortEnough n t a) a 0
     (λ d. record { bound = λ s x. l .bound s (x .0); real = λ s e. (l .real s e, omega arith) })
     (λ d. record { bound = λ s x. absurd (d (omega (arith, l .bound s (x .0), x .1))); real = λ s e. absurd (omega arith) })
 
 -- `-`, where v is the latest start of y that ends at t or before
-pub without-latest : {X Y : Instances} {t a v : ℕ} → Latest X t a → Top Y (suc t) v → Latest (Rule Without X Y) t (pick (decLt v a) a 0)
+pub without-latest : {X Y : Instances} {t a v : ℕ} → Latest X t a → Top Y (suc t) v → Latest (Rule Without X Y) t (pick (unblocked v a) a 0)
 without-latest {X} {Y} {t} {a} {v} l h =
-    pick-cases (Latest (Rule Without X Y) t) (decLt v a) a 0
+    pick-cases (Latest (Rule Without X Y) t) (unblocked v a) a 0
     (λ d. record {
       bound = λ s x. l .bound s (x .0);
       real = λ s e. (l .real s e, λ s′ t′ i j y. omega (arith, h .bound s′ t′ y (omega arith)));

@@ -2,7 +2,7 @@
 -- Assumes nothing.
 use mathlib.Core.Path.{_≡_, subst}
 use mathlib.Core.List.{List, [], _∷_}
-use Prim.Native.Nat.{ℕ, suc, _≤_, _<_}
+use Prim.Native.Nat.{ℕ, suc, pred, _≤_, _<_}
 use native.Mathlib.Omega.{arith}
 use lib.ListN.{length}
 use Rattle.detector.specs.Memory.{Span}
@@ -37,11 +37,9 @@ gather-sorted old (σ ∷ ss) =
     gather-cases (Sorted 0) old σ ss (λ d. insert-sorted 0 (choose old σ) (gather old ss) d i) (λ d. i)
 
 -- and are no more than the possible starts
-pub gather-length : (old : List Span) (ss : List ℕ) → length (gather old ss) ≤ length ss
+pub gather-length : (old : List Span) (ss : List ℕ) (n : ℕ) → length ss ≤ n → length (gather old ss) ≤ n
 unfolding gather
-gather-length old [] = omega arith
-gather-length old (σ ∷ ss) =
-    let i = gather-length old ss in
-    gather-cases (λ l. length l ≤ suc (length ss)) old σ ss
-    (λ d. omega (arith, insert-length (choose old σ) (gather old ss)))
-    (λ d. omega arith)
+gather-length old [] n h = h
+gather-length old (σ ∷ ss) n h =
+    let i = gather-length old ss (pred n) (omega arith) in
+    gather-cases (λ l. length l ≤ n) old σ ss (λ d. omega (arith, insert-length (choose old σ) (gather old ss))) (λ d. omega arith)

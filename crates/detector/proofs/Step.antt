@@ -4,24 +4,24 @@ use mathlib.Core.Path.{_≡_, refl}
 use mathlib.Core.Logic.{inl, inr}
 use mathlib.Core.List.{List, [], _∷_, _++_}
 use Prim.Native.Nat.{ℕ, suc, _+_, _≤_, min, max}
-use native.Mathlib.Decide.{decLe, decLt, ℕ-discrete}
+use native.Mathlib.Decide.{ℕ-discrete}
 use native.Mathlib.Omega.{arith}
 use Rattle.rules.specs.declared.Op.the-variants.{Either, Both, Without, Chain}
 use Rattle.rules.specs.Bits.{bit}
 use Rattle.rules.specs.Lists.{In, All}
 use Rattle.rules.specs.Pattern.{Pattern, event, pair, within}
 use Rattle.rules.specs.Instances.{Record, Has, Latest}
-use Rattle.rules.proofs.Lists.{in-left, in-right, in-cases, in-one, in-two}
+use Rattle.rules.proofs.Lists.{in-left, in-right, in-cases, in-one, in-two, all-map}
 use Rattle.detector.specs.Memory.{Span, Memory}
 use Rattle.detector.specs.Possible.{startsOf, starts}
 use Rattle.detector.specs.Choice.{gather}
-use Rattle.detector.specs.Step.{later, answer, next}
+use Rattle.detector.specs.Step.{startingAt, later, shortEnough, unblocked, answer, next}
 use Rattle.detector.specs.Form.{Form}
-use Rattle.detector.proofs.Good.{Top, Good}
+use Rattle.detector.proofs.Good.{Top, Real, Good}
 use Rattle.detector.proofs.Operators.{later-start, later-real, top-step}
 use Rattle.detector.proofs.Operators.{event-latest, either-latest, within-latest, without-latest, both-latest}
 use Rattle.detector.proofs.Choice.{choose-all, gather-all}
-use Rattle.detector.proofs.Chain.{chain-latest, chain-kept, chain-real}
+use Rattle.detector.proofs.Chain.{chain-latest, chain-reach, gather-kept, real-none, real-suc}
 use Rattle.detector.proofs.From.{From, from-wider, from-eq, from-max, from-min, from-pick, from-later, all-starts, in-starts}
 use Rattle.detector.proofs.Form.{starts-le}
 
@@ -38,7 +38,7 @@ module _ (r : Record) (t w : ℕ) (q : r t ≡ w) where
   step-event n = record {
     right = event-latest r n t w q;
     good = tt;
-    origin = from-pick [] t (suc t) (ℕ-discrete (bit w n) 1) (inr (inl refl));
+    origin = from-pick [] t (startingAt t) (ℕ-discrete (bit w n) 1) (inr (inl refl));
     stays = λ σ i. absurd i;
   }
 
@@ -66,7 +66,7 @@ module _ (r : Record) (t w : ℕ) (q : r t ≡ w) where
   step-within x n m a = record {
     right = within-latest n (a .right);
     good = a .good;
-    origin = from-pick (starts x m) t (answer x m t w) (decLe (suc t) (answer x m t w + n)) (a .origin);
+    origin = from-pick (starts x m) t (answer x m t w) (shortEnough n t (answer x m t w)) (a .origin);
     stays = a .stays;
   }
 
@@ -77,7 +77,7 @@ module _ (r : Record) (t w : ℕ) (q : r t ≡ w) where
   step-without x y m k v h a b = record {
     right = without-latest (a .right) (top-step h (b .right) (max v (answer y k t w)) refl);
     good = (a .good, b .good, top-step h (b .right) (max v (answer y k t w)) refl);
-    origin = from-pick (starts x m) t (answer x m t w) (decLt (max v (answer y k t w)) (answer x m t w)) (a .origin);
+    origin = from-pick (starts x m) t (answer x m t w) (unblocked (max v (answer y k t w)) (answer x m t w)) (a .origin);
     stays = a .stays;
   }
 
@@ -140,7 +140,7 @@ module _ (r : Record) (t w : ℕ) (q : r t ≡ w) where
       frd : From l t rd
       frd = from-later l t ay d (fromSides (d .start) (inr (inl refl))) fy
 
-  -- p is latest, ps the kept pairs
+  -- p is latest, ps the kept pairs; the new ones still reach all that y may yet need
   step-chain :
       (x y : Pattern) (m : Memory x) (k : Memory y) (p : Span) (ps : List Span) → Good r (pair Chain x y) (m, k, p, ps) t →
       ((σ : ℕ) → In σ (starts y k) → σ ≤ t) →
@@ -148,14 +148,17 @@ module _ (r : Record) (t w : ℕ) (q : r t ≡ w) where
   unfolding answer next
   step-chain x y m k p ps g le a b = record {
     right = chain-latest (Has r x) t p ps (starts y k) (g .2) (g .3) (g .5) le (g .4) (b .right) (b .origin);
-    good = (
-      a .good,
-      b .good,
-      top-step (g .2) (a .right) lp (later-start p ax t),
-      later-real p ax t (g .3) (a .right),
-      chain-real p ps ss′ (g .3) (g .4),
-      chain-kept (Has r x) t p ps (starts y k) (g .2) (g .3) (g .5) le ss′ (b .stays),
-    );
+    good =
+        let latest = real-suc p (g .3) in
+        let kept = all-map ps real-suc (g .4) in
+        let new = later-real p ax t (g .3) (a .right) in (
+          a .good,
+          b .good,
+          top-step (g .2) (a .right) lp (later-start p ax t),
+          new,
+          search (gather-all (Real (Has r x) (suc t)) (real-none (Has r x) (suc t))),
+          search (gather-kept, chain-reach (Has r x) t p ps (starts y k) (g .2) (g .3) (g .5) le, b .stays),
+        );
     origin = choose-all (λ z. From l t (z .start)) (inl refl) (p ∷ ps) (answer y k t w) old;
     stays = λ σ. in-cases σ (starts x (next x m t w)) (startsOf (gather (p ∷ ps) ss′) ++ (lp ∷ [])) (λ i. fromX σ (a .stays σ i))
         (in-cases σ (startsOf (gather (p ∷ ps) ss′)) (lp ∷ [])

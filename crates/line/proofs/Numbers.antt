@@ -6,7 +6,7 @@ use mathlib.Core.List.{List, [], _∷_, _++_}
 use lib.Seq.{append-snoc}
 use borrow.Author.Tests.{lt-ltb, le-ltb, eq-eqb, ne-eqb}
 use Rattle.text.specs.Render.{digitsIn}
-use Rattle.text.specs.Machine.{digitOf}
+use Rattle.text.specs.Characters.{digitOf}
 use Rattle.text.proofs.Branches.{either-way, either-is}
 use Rattle.text.proofs.Bytes.{digit-byte, byte-digit}
 use Rattle.line.specs.Lines.{decimal}

@@ -10,7 +10,7 @@ use lib.Seq.{drop-cons}
 use borrow.Author.Tests.{eq-eqb, ne-eqb}
 use Rattle.rules.specs.Decisions.{pick}
 use Rattle.rules.specs.Limits.{letters, ticks}
-use Rattle.text.specs.Machine.{letterOf, digitOf}
+use Rattle.text.specs.Characters.{letterOf, digitOf}
 use Rattle.line.specs.Lines.{mostLine}
 use Rattle.line.specs.Answer.{LineOf, IsTick, IsRange}
 use Rattle.line.specs.Scan.{frontOf, grow, wordFrom, wordOf, withWord, afterFront, parse}

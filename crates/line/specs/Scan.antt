@@ -5,7 +5,7 @@ use mathlib.Core.Bool.{cond}
 use mathlib.Core.List.{List, [], _∷_}
 use lib.Dec.{ltb, eqb}
 use Rattle.rules.specs.Limits.{letters}
-use Rattle.text.specs.Machine.{letterOf, digitOf}
+use Rattle.text.specs.Characters.{letterOf, digitOf}
 
 -- the number at the front of a line, and what follows it
 pub data Front : Type 0 where

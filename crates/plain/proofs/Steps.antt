@@ -45,7 +45,7 @@ short-same n X X′ f s e = ((λ q. (f s e .0 (q .0), q .1)), (λ q. (f s e .1 (
 pub past : (l : List ℕ) (s e : ℕ) → length l ≤ e → Shown l s e → ⊥
 past l s e h b = omega (arith, bit-zero s, ap (λ (n : ℕ). bit n s) (List·getD-eq-default l 0 h))
 
-rows-past : (l : List ℕ) (a s e : ℕ) → 64 ≤ e → Shown (rowsOf l a) s e → ⊥
+pub rows-past : (l : List ℕ) (a s e : ℕ) → 64 ≤ e → Shown (rowsOf l a) s e → ⊥
 rows-past l a s e h b = past (rowsOf l a) s e (omega (arith, length-take 64 (drop (a * 64) l))) b
 
 -- X has no instance that ends past the rows

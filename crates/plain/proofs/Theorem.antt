@@ -1,20 +1,22 @@
 -- The claims of the plain evaluator: demand 2, that no second outcome meets the promises, and the agreement with the detector.
 -- Assumes nothing.
 use mathlib.Core.Path.{_≡_, refl, sym, ap, _∙_, subst}
+use mathlib.Core.Logic.{_↔_, inl, inr, ⊎-elim}
 use mathlib.Core.List.{List, [], _∷_, _++_, append-assoc}
 use Prim.Native.Nat.{ℕ, zero, suc, pred, _+_, _*_, _/_, _%_, _^_, _<_}
 use native.Mathlib.Decide.{decLt, ℕ-discrete}
 use native.Mathlib.Omega.{arith}
 use lib.ListN.{getD, length, length-append}
 use lib.Seq.{ext-getD, getD-at}
-use Rattle.rules.specs.Bits.{bit, On}
+use Rattle.rules.specs.Bits.{bit, On, onesBelow}
 use Rattle.rules.specs.Limits.{argumentBytes}
+use Rattle.rules.specs.Lists.{In}
 use Rattle.rules.specs.Pattern.{Pattern, event, pair, within, size}
 use Rattle.rules.specs.Instances.{Record, Has, Latest}
 use Rattle.rules.specs.History.{Tick, Rising, recordOf}
 use Rattle.rules.specs.Decisions.{pick}
 use Rattle.rules.proofs.Bits.{bit-lt, ext}
-use Rattle.rules.proofs.Facts.{has-agree, latest-unique}
+use Rattle.rules.proofs.Facts.{has-le, has-agree, latest-unique}
 use Rattle.detector.specs.Step.{answer}
 use Rattle.detector.specs.Run.{run}
 use Rattle.detector.proofs.Theorem.{always}
@@ -26,11 +28,12 @@ use Rattle.body.proofs.Trees.{size-pos}
 use Rattle.plain.specs.declared.Start.the-variants.{Nowhere, At}
 use Rattle.plain.specs.declared.Evaluation.{Evaluation}
 use Rattle.plain.specs.declared.Evaluation.the-variants.{Evaluated, Refused}
-use Rattle.plain.specs.Rows.{rowsOf, worded, parts, Written}
+use Rattle.plain.specs.Rows.{Shown, rowsOf, worded, parts, Written}
 use Rattle.plain.specs.Answer.{evaluationOf, ifSound, Answers}
-use Rattle.plain.specs.Claim.{ShownExactly, Words, OneAnswer, OneStart, startNumber, LatestOfRow, historyFrom, AgreesWithDetector}
+use Rattle.plain.specs.Claim.{ShownExactly, Words, OneAnswer, OneStart, startNumber, LatestOfRow, Count, CountsInstances, historyFrom, AgreesWithDetector}
 use Rattle.plain.proofs.Fills.{row-at}
 use Rattle.plain.proofs.Sets.{latest-le}
+use Rattle.plain.proofs.Steps.{rows-past}
 use Rattle.plain.proofs.Ends.{length-parts}
 
 pub shown-exactly : ShownExactly
@@ -53,6 +56,57 @@ latest-of-row b words old new e body a k h t (At s) l = record {
       let q : s ≡ u = omega arith in
       shown-exactly b words old new e body a k h u t .0 (subst (On (getD (rowsOf new k) t 0)) q (l .0));
 }
+
+-- the bits below k that are set, from the highest down
+bits-below : (k row : ℕ) → Count (λ s. (s < k) × On row s) (onesBelow k row)
+unfolding onesBelow
+bits-below zero row = record { those = []; distinct = tt; exactly = λ s. ((λ i. absurd i), (λ p. absurd (omega (arith, p .0)))); many = refl }
+bits-below (suc k) row = go (bits-below k row) (ℕ-discrete (bit row k) 1)
+  where
+    go : Count (λ s. (s < k) × On row s) (onesBelow k row) → Dec (On row k) → Count (λ s. (s < suc k) × On row s) (bit row k + onesBelow k row)
+    go c (yes h) = record {
+      those = k ∷ c .those;
+      distinct = ((λ i. omega (arith, c .exactly k .0 i .0)), c .distinct);
+      exactly = λ s. (
+        ⊎-elim (λ q. (omega arith, subst (On row) (sym q) h)) (λ i. let p = c .exactly s .0 i in (omega (arith, p .0), p .1)),
+        λ p. at s p (ℕ-discrete s k),
+      );
+      many = omega (arith, c .many);
+    }
+      where
+        at : (s : ℕ) → (s < suc k) × On row s → Dec (s ≡ k) → In s (k ∷ c .those)
+        at s p (yes q) = inl q
+        at s p (no q) = inr (c .exactly s .1 (omega (arith, p .0), p .1))
+    go c (no h) = record {
+      those = c .those;
+      distinct = c .distinct;
+      exactly = λ s. (
+        (λ i. let p = c .exactly s .0 i in (omega (arith, p .0), p .1)),
+        λ p. c .exactly s .1 (below s p (ℕ-discrete s k), p .1),
+      );
+      many = omega (arith, c .many, bit-lt row k);
+    }
+      where
+        below : (s : ℕ) → (s < suc k) × On row s → Dec (s ≡ k) → s < k
+        below s p (yes q) = absurd (h (subst (On row) q (p .1)))
+        below s p (no q) = omega (arith, p .0)
+
+-- a start stands at its end or before it, so below 64
+pub counts-instances : CountsInstances
+counts-instances b words old new e body a k h t =
+    let c = bits-below 64 (getD (rowsOf new k) t 0) in record {
+      those = c .those;
+      distinct = c .distinct;
+      exactly = λ s. ((λ i. shown s .0 (c .exactly s .0 i .1)), λ x. c .exactly s .1 (low s x (decLt t 64), shown s .1 x));
+      many = c .many;
+    }
+  where
+    shown : (s : ℕ) → Shown (rowsOf new k) s t ↔ Has (worded words) (getD (parts e) k (event 0)) s t
+    shown s = shown-exactly b words old new e body a k h s t
+
+    low : (s : ℕ) → Has (worded words) (getD (parts e) k (event 0)) s t → Dec (t < 64) → s < 64
+    low s x (yes l) = omega (arith, has-le (worded words) (getD (parts e) k (event 0)) s t x)
+    low s x (no l) = absurd (rows-past new k s t (omega arith) (shown s .1 x))
 
 -- two rows of 64 bits that show the same starts are the same row
 same-row : (a b : ℕ) → a < 2 ^ 64 → b < 2 ^ 64 → ((s : ℕ) → On a s → On b s) → ((s : ℕ) → On b s → On a s) → a ≡ b

@@ -4,7 +4,9 @@ use mathlib.Core.Logic.{_↔_}
 use mathlib.Core.List.{List, [], _∷_, _++_}
 use Prim.Native.Nat.{ℕ, suc, pred, _^_, _<_}
 use lib.ListN.{getD, length}
+use Rattle.rules.specs.Bits.{onesBelow}
 use Rattle.rules.specs.Limits.{argumentBytes}
+use Rattle.rules.specs.Lists.{In}
 use Rattle.rules.specs.Pattern.{Pattern, event, size}
 use Rattle.rules.specs.Instances.{Has, Latest}
 use Rattle.rules.specs.History.{Tick}
@@ -51,6 +53,25 @@ LatestOfRow =
     (b words old new : List ℕ) (e : Pattern) → BodyOf argumentBytes b e → Answers b words old new Evaluated
     → (k : ℕ) → k < length (parts e) → (t : ℕ) (start : Start) → IsLatest (getD (rowsOf new k) t 0) start
     → Latest (Has (worded words) (getD (parts e) k (event 0))) t (startNumber start)
+
+-- no number stands in the list twice
+abbrev pub Distinct : List ℕ → Type 0
+Distinct [] = Unit {0}
+Distinct (s ∷ l) = (In s l → ⊥) × Distinct l
+
+-- P holds of just n numbers: those of a list of n in which none stands twice
+pub record Count (P : ℕ → Type 0) (n : ℕ) : Type 0 where
+  pub those : List ℕ
+  pub distinct : Distinct those
+  pub exactly : (s : ℕ) → In s those ↔ P s
+  pub many : length those ≡ n
+
+-- the ones of row t of an entry, which `instances` counts, are as many as the instances of its pattern that end at t
+abbrev pub CountsInstances : Type 0
+CountsInstances =
+    (b words old new : List ℕ) (e : Pattern) → BodyOf argumentBytes b e → Answers b words old new Evaluated
+    → (k : ℕ) → k < length (parts e) → (t : ℕ)
+    → Count (λ s. Has (worded words) (getD (parts e) k (event 0)) s t) (onesBelow 64 (getD (rowsOf new k) t 0))
 
 -- the words as a history of ticks i, i + 1, i + 2 ..
 unfoldable pub historyFrom : ℕ → List ℕ → List Tick

@@ -10,7 +10,8 @@ use Rattle.rules.specs.Limits.{letters}
 use Rattle.rules.specs.Pattern.{Pattern, event, pair, within, Proper}
 use Rattle.text.specs.Render.{numbers, opByte, digits, render}
 use Rattle.text.specs.Grammar.{Begins}
-use Rattle.text.specs.Machine.{Frame, State, Move, letterOf, digitOf, grows, step, afterSign}
+use Rattle.text.specs.Characters.{letterOf, digitOf}
+use Rattle.text.specs.Machine.{Frame, State, Move, grows, step, afterSign}
 use Rattle.text.specs.Machine.Frame.{first, second}
 use Rattle.text.specs.Machine.State.{want, have, limit, number}
 use Rattle.text.specs.Machine.Move.{none, to}

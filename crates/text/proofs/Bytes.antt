@@ -9,7 +9,8 @@ use Rattle.rules.specs.declared.Op.{Op}
 use Rattle.rules.specs.declared.Op.the-variants.{Either, Both, Without, Chain}
 use Rattle.rules.specs.Limits.{letters}
 use Rattle.text.specs.Render.{numbers, mostDigits, letterByte, opByte, digitsIn, digits}
-use Rattle.text.specs.Machine.{Sign, letterOf, signOf, digitOf, grows}
+use Rattle.text.specs.Characters.{letterOf, digitOf}
+use Rattle.text.specs.Machine.{Sign, signOf, grows}
 use Rattle.text.specs.Machine.Sign.{oper, cap, other}
 use Rattle.text.proofs.Branches.{either-way, either-is}
 use Rattle.text.proofs.Numbers.{grows-over, grows-zero, grows-other}

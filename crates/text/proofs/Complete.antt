@@ -9,7 +9,8 @@ use Rattle.rules.specs.Limits.{letters}
 use Rattle.rules.specs.Pattern.{Pattern, event, pair, within, Proper}
 use Rattle.text.specs.Render.{numbers, mostDigits, letterByte, opByte, digitsIn, digits, render}
 use Rattle.text.specs.Grammar.{TextOf}
-use Rattle.text.specs.Machine.{Frame, State, Move, letterOf, signOf, digitOf, grows, step, afterSign, follow, run}
+use Rattle.text.specs.Characters.{letterOf, digitOf}
+use Rattle.text.specs.Machine.{Frame, State, Move, signOf, grows, step, afterSign, follow, run}
 use Rattle.text.specs.Machine.Frame.{first, second}
 use Rattle.text.specs.Machine.State.{want, have, limit, number}
 use Rattle.text.specs.Machine.Outcome.{whole}

@@ -9,7 +9,8 @@ use lib.ListN.{length, getD, drop}
 use borrow.Author.Tests.{lt-ltb, le-ltb, ne-eqb}
 use Rattle.rules.specs.Pattern.{Pattern, within}
 use Rattle.text.specs.Render.{numbers}
-use Rattle.text.specs.Machine.{Frame, digitOf, grows, run, shut}
+use Rattle.text.specs.Characters.{digitOf}
+use Rattle.text.specs.Machine.{Frame, grows, run, shut}
 use Rattle.text.specs.Machine.State.{limit, number}
 use Rattle.text.specs.Told.{IsValue, IsBad}
 use Rattle.text.proofs.Branches.{by-test, either-way}

@@ -12,7 +12,8 @@ use Rattle.rules.specs.Pattern.{Pattern, event, size}
 use Rattle.body.specs.declared.Entry.the-variants.{Pair}
 use Rattle.body.specs.Bytes.{bytesOf}
 use Rattle.body.specs.Entry.{entryBytes}
-use Rattle.text.specs.Machine.{Frame, Sign, letterOf, signOf, signNumber, run, shut, afterSign}
+use Rattle.text.specs.Characters.{letterOf}
+use Rattle.text.specs.Machine.{Frame, Sign, signOf, signNumber, run, shut, afterSign}
 use Rattle.text.specs.Machine.Frame.{first, second}
 use Rattle.text.specs.Machine.State.{want, have, limit}
 use Rattle.text.specs.Machine.Sign.{oper, cap, other}

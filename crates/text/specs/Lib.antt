@@ -1,4 +1,5 @@
 pub mod Render
+pub mod Characters
 pub mod Grammar
 pub mod Answer
 pub mod Claim

@@ -1,15 +1,16 @@
--- An inner device of the reader's proof, cited by no public contract: reading a text a byte at a time. What has been read so far is a
--- state, and a byte either leads on or does not. Assumes nothing: these are definitions.
-use Prim.Native.Nat.{ℕ, _+_, _-_, _*_}
+-- Reading a text a byte at a time, for the proof of the reader; no public contract cites it. What has been read so far is a state, and a byte
+-- either leads on to another state or cannot follow. Assumes nothing: these are definitions.
+use Prim.Native.Nat.{ℕ, _+_, _*_}
 use mathlib.Core.List.{List, [], _∷_}
 use mathlib.Core.Bool.{Bool, false, cond}
-use lib.Dec.{ltb, leb, eqb}
+use lib.Dec.{ltb, eqb}
 use Rattle.rules.specs.declared.Op.{Op}
 use Rattle.rules.specs.declared.Op.the-variants.{Either, Both, Without, Chain}
 use Rattle.rules.specs.Limits.{letters}
 use Rattle.rules.specs.Pattern.{Pattern, event, pair, within}
 use Rattle.body.specs.Entry.{opNumber}
 use Rattle.text.specs.Render.{numbers}
+use Rattle.text.specs.Characters.{letterOf, digitOf}
 
 -- where an expression stands: first in a bracket, or second, after an operand and an operator
 pub data Frame : Type 0 where
@@ -38,10 +39,6 @@ pub data Sign : Type 0 where
   cap : Sign
   other : Sign
 
--- 0..31 for a letter, 32 for any other byte
-unfoldable pub letterOf : ℕ → ℕ
-letterOf c = cond (ltb c 65) letters (cond (leb c 90) (c - 65) (cond (ltb c 97) letters (cond (leb c 102) (c - 71) letters)))
-
 unfoldable pub signOf : ℕ → Sign
 signOf c =
     cond (eqb c 124) (oper Either)
@@ -55,10 +52,6 @@ abbrev pub signNumber : Sign → ℕ
 signNumber (oper op) = opNumber op
 signNumber cap = 5
 signNumber other = 0
-
--- 0..9 for a digit, 10 for any other byte
-unfoldable pub digitOf : ℕ → ℕ
-digitOf c = cond (ltb c 48) 10 (cond (leb c 57) (c - 48) 10)
 
 -- the digit c may follow the number v: no number but 0 begins with 0, and none is out of range
 unfoldable pub grows : ℕ → ℕ → Bool

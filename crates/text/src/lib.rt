@@ -13,7 +13,7 @@ use rules::MOST_BODY;
 use rules::MOST_ENTRIES;
 use rules::MOST_TEXT;
 ghost use mathlib.Core.Path.{_≡_};
-ghost use Rattle.text.specs.Machine.{letterOf, digitOf};
+ghost use Rattle.text.specs.Characters.{letterOf, digitOf};
 ghost use Rattle.text.specs.Answer.{ReadingOf, PrintingOf};
 
 // What reading a text answers: the bytes of body written, or why the text is refused.

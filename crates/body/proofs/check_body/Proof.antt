@@ -94,10 +94,14 @@ loop-again c =
     )
 
 returns-5 : tie.Need-returns-5 Inv-loop μ-loop
-returns-5 c = rw (scan-end _ _ _ _ (c .before .loop-test .left), eq-eqb _ _ (c .if4 .taken)) at (c .before .before .loop .inv .2)
+returns-5 c =
+    let k = c .before .before in
+    rw (scan-end _ _ _ _ (c .before .loop-test .left), eq-eqb (k .loop .trees) 1 (omega arith)) at (k .loop .inv .2)
 
 returns-6 : tie.Need-returns-6 Inv-loop μ-loop
-returns-6 c = rw (scan-end _ _ _ _ (c .before .loop-test .left), ne-eqb _ _ (c .if4 .left)) at (c .before .before .loop .inv .2)
+returns-6 c =
+    let k = c .before .before in
+    rw (scan-end _ _ _ _ (c .before .loop-test .left), ne-eqb (k .loop .trees) 1 (λ e. omega arith)) at (k .loop .inv .2)
 
 pub check-body-spec : {M : Type 1} → statement M
 check-body-spec =

@@ -56,7 +56,7 @@ returns-4 c =
     let l = c .before in
     let e = l .before .before .before in
     malformed (no-line _ (parsed-no-letter _ (number-is (e .before .before)) (byte-follows e) (l .before .if3 .left) _ (l .read-letters .ensures)
-    (c .if4 .taken)))
+    (omega arith)))
 
 returns-5 : tie.Need-returns-5
 returns-5 c =
