@@ -1,4 +1,5 @@
-/* Every call of mws.h once accepted and once refused, with what document 01 says of each. Prints the number of facts that hold, and each that does not. */
+/* Every call of mws.h: accepted, refused, and with empty slices as null pointers; with what document 01 says of each.
+ * Prints how many facts hold, and each one that does not. */
 #include <stdio.h>
 #include <string.h>
 
@@ -18,6 +19,11 @@ static void holds(int fact, const char *what) {
 }
 
 #define HOLDS(fact) holds(fact, #fact)
+
+/* Whether a status has this number and place. */
+static int is(uint64_t status, unsigned number, uint32_t place) {
+    return MWS_NUMBER(status) == number && MWS_PLACE(status) == place;
+}
 
 static const uint8_t *bytes(const char *text) {
     return (const uint8_t *)text;
@@ -95,6 +101,24 @@ static void watching(void) {
     HOLDS(MWS_NUMBER(mws_watch_feed(state, 12, ticks, 2, events, 2, answers, 3)) == MWS_LATE && answers[1] == 901);
 }
 
+/* Of the ticks fed after 1500, the first one that is faulty decides. */
+static void faulty_feeds(void) {
+    uint64_t state[11] = {0}, before[11], answers[3] = {7, 7, 7};
+    const uint32_t events[3] = {S, P, P};
+    const uint64_t first_late[3] = {1500, 4294967296u, 1501}, last_late[3] = {1501, 1502, 1502};
+    const uint64_t first_over[3] = {4294967296u, 0, 1}, last_over[3] = {1501, 1502, 4294967296u};
+    HOLDS(mws_watch_open(steps, 30, state, 11) == 0 && mws_watch_tick(state, 11, 1500, S, answers) == 0);
+    answers[0] = 7;
+    memcpy(before, state, sizeof state);
+    HOLDS(is(mws_watch_feed(state, 11, first_late, 3, events, 3, answers, 3), MWS_LATE, 0));
+    HOLDS(is(mws_watch_feed(state, 11, last_late, 3, events, 3, answers, 3), MWS_LATE, 2));
+    HOLDS(is(mws_watch_feed(state, 11, first_over, 3, events, 3, answers, 3), MWS_RANGE, 0));
+    HOLDS(is(mws_watch_feed(state, 11, last_over, 3, events, 3, answers, 3), MWS_RANGE, 0));
+    HOLDS(is(mws_watch_feed(state, 11, last_over, 3, events, 2, answers, 2), MWS_RECORD, 0));
+    HOLDS(is(mws_watch_feed(state, 11, last_over, 3, events, 3, answers, 2), MWS_ROOM, 3));
+    HOLDS(memcmp(before, state, sizeof state) == 0 && answers[0] == 7 && answers[1] == 7 && answers[2] == 7);
+}
+
 static void sets(void) {
     uint64_t states[14], words = 77, answers[3] = {7, 7, 7};
     HOLDS(mws_set_room(file, 60, &words) == 0 && words == 14);
@@ -113,13 +137,70 @@ static void tallies(void) {
     HOLDS(MWS_NUMBER(mws_tally_add(&full, 0, 0)) == MWS_FULL && full.windows == ~(uint64_t)0 && full.ticks == 0);
 }
 
+/* Every slice of every call as a null pointer with count 0, one by one. */
+static void nulls(void) {
+    static uint64_t rows[64 * 6];
+    uint8_t bodies[35], out[64];
+    uint64_t state[11], states[14], before[11], answers[2], n = 77, m = 77, status;
+    const uint64_t ticks[1] = {900};
+    const uint32_t events[1] = {S};
+    memcpy(bodies, steps, 30);
+    memcpy(bodies + 30, step, 5);
+    HOLDS(mws_watch_open(steps, 30, state, 11) == 0 && mws_set_open(file, 60, states, 14) == 0);
+    memcpy(before, state, sizeof state);
+
+    HOLDS(is(mws_body_check(NULL, 0), MWS_SIZE, 0));
+    HOLDS(is(mws_text_read(NULL, 0, out, sizeof out, &n), MWS_SYNTAX, 0));
+    HOLDS(is(mws_text_read(bytes("S"), 1, NULL, 0, &n), MWS_ROOM, 5));
+    HOLDS(is(mws_text_print(NULL, 0, out, sizeof out, &n), MWS_SIZE, 0));
+    HOLDS(is(mws_text_print(steps, 30, NULL, 0, &n), MWS_ROOM, 15));
+
+    HOLDS(is(mws_file_check(NULL, 0), MWS_COUNT, 0));
+    HOLDS(is(mws_file_write(NULL, 0, counts, 2, bodies, 35, out, sizeof out, &n), MWS_COUNT, 0));
+    HOLDS(is(mws_file_write(bytes(names), 16, NULL, 0, bodies, 35, out, sizeof out, &n), MWS_COUNT, 0));
+    HOLDS(is(mws_file_write(bytes(names), 16, counts, 2, NULL, 0, out, sizeof out, &n), MWS_SIZE, 0));
+    HOLDS(is(mws_file_write(bytes(names), 16, counts, 2, bodies, 35, NULL, 0, &n), MWS_ROOM, 60));
+    HOLDS(is(mws_file_write(NULL, 0, NULL, 0, NULL, 0, NULL, 0, &n), MWS_COUNT, 0));
+    status = mws_file_lookup(NULL, 0, file, 60, bytes("STEP    "), 8, &n, &m);
+    HOLDS(is(status, MWS_COUNT, 0) && MWS_FILE(status) == 0);
+    status = mws_file_lookup(file, 60, NULL, 0, bytes("STEP    "), 8, &n, &m);
+    HOLDS(is(status, MWS_COUNT, 0) && MWS_FILE(status) == 1);
+    HOLDS(is(mws_file_lookup(file, 60, file, 60, NULL, 0, &n, &m), MWS_ABSENT, 0));
+    HOLDS(is(mws_file_lookup(NULL, 0, NULL, 0, NULL, 0, &n, &m), MWS_COUNT, 0));
+
+    HOLDS(is(mws_plain(NULL, 0, events, 1, rows, 64 * 6), MWS_SIZE, 0));
+    HOLDS(is(mws_plain(steps, 30, events, 1, NULL, 0), MWS_ROOM, 64 * 6));
+    rows[0] = rows[64 * 6 - 1] = 7;
+    HOLDS(mws_plain(steps, 30, NULL, 0, rows, 64 * 6) == 0 && rows[0] == 0 && rows[64 * 6 - 1] == 0);
+
+    HOLDS(is(mws_watch_room(NULL, 0, &n), MWS_SIZE, 0));
+    HOLDS(is(mws_watch_open(NULL, 0, state, 11), MWS_SIZE, 0));
+    HOLDS(is(mws_watch_open(steps, 30, NULL, 0), MWS_ROOM, 11));
+    HOLDS(is(mws_watch_tick(NULL, 0, 0, S, &n), MWS_STATE, 0));
+    HOLDS(is(mws_watch_feed(NULL, 0, ticks, 1, events, 1, answers, 2), MWS_STATE, 0));
+    HOLDS(is(mws_watch_feed(state, 11, NULL, 0, events, 1, answers, 2), MWS_RECORD, 0));
+    HOLDS(is(mws_watch_feed(state, 11, ticks, 1, NULL, 0, answers, 2), MWS_RECORD, 0));
+    HOLDS(is(mws_watch_feed(state, 11, ticks, 1, events, 1, NULL, 0), MWS_ROOM, 1));
+    HOLDS(is(mws_watch_feed(NULL, 0, NULL, 0, NULL, 0, NULL, 0), MWS_STATE, 0));
+    HOLDS(mws_watch_feed(state, 11, NULL, 0, NULL, 0, NULL, 0) == 0 && memcmp(before, state, sizeof state) == 0);
+
+    HOLDS(is(mws_set_room(NULL, 0, &n), MWS_COUNT, 0));
+    HOLDS(is(mws_set_open(NULL, 0, states, 14), MWS_COUNT, 0));
+    HOLDS(is(mws_set_open(file, 60, NULL, 0), MWS_ROOM, 14));
+    HOLDS(is(mws_set_tick(NULL, 0, 2, 5, S, answers, 2), MWS_STATE, 0));
+    HOLDS(is(mws_set_tick(states, 14, 2, 5, S, NULL, 0), MWS_ROOM, 2));
+    HOLDS(n == 77 && m == 77);
+}
+
 int main(void) {
     text_and_body();
     files();
     plain();
     watching();
+    faulty_feeds();
     sets();
     tallies();
+    nulls();
     printf("%u hold, %u do not\n", held, failed);
     return failed != 0;
 }

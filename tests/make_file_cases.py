@@ -1,10 +1,12 @@
 #!/usr/bin/env python3
-"""Prints what the program `cases` must print of pattern files: a file cut at every length, and every change of one byte.
+"""Prints the lines of crates/cases/stdout that begin with `file cut:` or `file byte `, all of them and in their order.
 
-An independent implementation of document 01's rules on pattern files ("Pattern file: contents, then bodies" and the table
-of refusals). A line of changes has, for each value of the byte, `number.place.entry`, 0.0.0 where nothing is refused.
+    diff <(grep -E '^file (cut:|byte) ' crates/cases/stdout) <(python3 tests/make_file_cases.py)
 
-    python3 tests/make_file_cases.py >> crates/cases/stdout
+must find no difference; tests/run does that. The lines say how a pattern file is judged when it is cut at each length,
+and when each of its bytes has each other value: `number.place.entry` for each value, 0.0.0 where nothing is refused.
+This is an independent implementation of document 01's rules ("Pattern file: contents, then bodies", and the table of
+refusals). To change a case, change this script and the program `cases`, and replace those lines of stdout.
 """
 
 LIMIT = 1 << 32

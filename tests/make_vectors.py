@@ -1,14 +1,16 @@
 #!/usr/bin/env python3
-"""Makes the vectors of the program `replay`: random patterns and records, and what the unrestricted rules say of each.
-
-An independent implementation of the rules (document 01, "The algebra"): brute force over all instances, as sets of
-(start, end) pairs. It shares nothing with the code under test.
+"""Writes crates/replay/stdin and crates/replay/stdout, whole: the input of the program `replay`, and what it must print.
 
     python3 tests/make_vectors.py crates/replay/stdin crates/replay/stdout
 
-One vector is its length in bytes, as five digits on a line, and three lines: the pattern's text; the ticks given to the watcher, as `tick:events` in hexadecimal; the event
-words given to the plain evaluator, in hexadecimal. For each vector the program prints three lines: the watcher's answers
-(start + 1, or 0), the latest starts of the rows of the whole pattern (start + 1, or 0), and how many instances each row has.
+The input has random patterns and records; the output is what the rules of document 01 ("The algebra") say of each, by
+brute force over all instances, as sets of (start, end) pairs. This script shares nothing with the code under test.
+tests/run makes both files again and compares them with the stored ones.
+
+One vector is its length in bytes, as five digits on a line, and three lines: the pattern's text; the ticks for the
+watcher, as `tick:events` in hexadecimal; the event words for the plain evaluator, in hexadecimal. For each vector the
+program prints three lines: the watcher's answers (start + 1, or 0), the latest starts of the rows of the whole pattern
+(start + 1, or 0), and how many instances each row has.
 """
 import random
 import sys
@@ -97,10 +99,11 @@ def main():
             ' '.join(str(latest(watched, t)) for t, _ in given),
             ' '.join(str(latest(plain, t)) for t in range(ticks)),
             ' '.join(str(len(r)) for r in rows)))
-    open(sys.argv[1], 'w').write(''.join('%05d\n%s' % (len(v), v) for v in vectors))
-    open(sys.argv[2], 'w').write(''.join(answers))
+    with open(sys.argv[1], 'w') as given, open(sys.argv[2], 'w') as expected:
+        given.write(''.join('%05d\n%s' % (len(v), v) for v in vectors))
+        expected.write(''.join(answers))
     print('%d vectors, seed %d' % (CASES, SEED))
 
 
-if __name__ == "__main__":
+if __name__ == '__main__':
     main()

@@ -117,6 +117,17 @@ pub struct Found {
     pub body: Range<usize>,
 }
 
+impl Found {
+    /// The bytes of the body, out of the two files of the lookup. They are empty if the file has become too short for it.
+    pub fn part<'a>(&self, site: &'a [u8], fleet: &'a [u8]) -> &'a [u8] {
+        let file = match self.whose {
+            Whose::Site => site,
+            Whose::Fleet => fleet,
+        };
+        file.get(self.body.clone()).unwrap_or_default()
+    }
+}
+
 /// Why a lookup found nothing.
 #[derive(Clone, Copy, Debug, PartialEq, Eq, Hash)]
 pub struct Missed {
@@ -126,7 +137,7 @@ pub struct Missed {
     pub refusal: Refusal,
 }
 
-/// Looks a padded name up, in the site file first: which file holds the body, and where.
+/// Looks a padded name up, in the site file first: which file holds the body, and where. [`Found::part`] gives its bytes.
 pub fn file_lookup(site: &[u8], fleet: &[u8], name: &[u8]) -> Result<Found, Missed> {
     let (mut from, mut length) = (0, 0);
     // SAFETY: each pointer and length are those of one slice, and the two words are apart.

@@ -1,7 +1,10 @@
 //! What a call answers when it does not do what was asked.
 
-/// Why a call was refused, and at which place. A refused call leaves all that it was lent as it was.
+/// Why a call was refused, and at which place. A refused call leaves everything that it was lent as it was.
+///
+/// A place that does not fit 32 bits is given as [`u32::MAX`]. A later version of the library may have more refusals.
 #[derive(Clone, Copy, Debug, PartialEq, Eq, Hash)]
+#[non_exhaustive]
 pub enum Refusal {
     /// Pattern text over 1,024 bytes.
     Long,
@@ -9,11 +12,11 @@ pub enum Refusal {
     Syntax { place: u32 },
     /// The text has over 63 entries.
     Many,
-    /// The number of patterns is not 1 to 16, or the contents are cut short.
+    /// The number of patterns is not 1 to 16, the contents are cut short, or the names are not 8 bytes a pattern.
     Count,
     /// An entry of a file's contents breaks a rule.
     Entry { index: u32 },
-    /// A file or a body ends elsewhere.
+    /// A file or a body ends too early or too late.
     Size,
     /// A body breaks a rule at an entry; a lone body has index 0.
     Body { index: u32, entry: u8 },
@@ -21,7 +24,7 @@ pub enum Refusal {
     Room { needed: u32 },
     /// A state is not in form; a lone state has index 0.
     State { index: u32 },
-    /// A tick over 4,294,967,295, or a window that ends before it starts.
+    /// A tick or a window's end over 4,294,967,295, or a window that ends before it starts.
     Range,
     /// A tick below the next allowed; of a set the state's index, of a feed the tick's, else 0.
     Late { index: u32 },
@@ -33,10 +36,12 @@ pub enum Refusal {
     Line,
     /// The name is in neither file.
     Absent,
+    /// A refusal that this crate does not know; only another version of the library can give it.
+    Other { number: u8, place: u32 },
 }
 
 impl Refusal {
-    /// The refusal's number, 1 to 15.
+    /// The refusal's number.
     pub fn number(self) -> u8 {
         match self {
             Refusal::Long => 1,
@@ -54,13 +59,14 @@ impl Refusal {
             Refusal::Full => 13,
             Refusal::Line => 14,
             Refusal::Absent => 15,
+            Refusal::Other { number, .. } => number,
         }
     }
 
     /// The refusal's place, 0 where none is named; of [`Refusal::Body`] the body's index.
     pub fn place(self) -> u32 {
         match self {
-            Refusal::Syntax { place } => place,
+            Refusal::Syntax { place } | Refusal::Other { place, .. } => place,
             Refusal::Room { needed } => needed,
             Refusal::Entry { index }
             | Refusal::Body { index, .. }
@@ -90,7 +96,7 @@ impl Refusal {
             13 => Refusal::Full,
             14 => Refusal::Line,
             15 => Refusal::Absent,
-            number => unreachable!("the library has no refusal {number}"),
+            number => Refusal::Other { number, place },
         })
     }
 }
@@ -106,3 +112,19 @@ impl core::fmt::Display for Refusal {
 }
 
 impl core::error::Error for Refusal {}
+
+#[cfg(test)]
+mod tests {
+    use super::Refusal;
+
+    #[test]
+    fn every_number_is_a_refusal() {
+        for number in 1..=255 {
+            let refusal = Refusal::of(number | 0xffff_ffff << 8 | 9 << 40).unwrap();
+            assert_eq!(u64::from(refusal.number()), number);
+            assert_eq!(matches!(refusal, Refusal::Other { .. }), number > 15);
+            assert!(number <= 15 || refusal.place() == u32::MAX);
+        }
+        assert_eq!(Refusal::of(0), None);
+    }
+}

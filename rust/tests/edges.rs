@@ -97,6 +97,25 @@ fn the_smallest_file() {
     assert_eq!(file_lookup(expected, expected, b"W       "), Ok(Found { whose: Whose::Site, body: 13..18 }));
 }
 
+/// A file with one pattern, a letter.
+fn file(name: &[u8; 8], letter: &str) -> Vec<u8> {
+    let mut file = vec![0; 18];
+    assert_eq!(file_write(name, &[1], &body(letter).unwrap(), &mut file), Ok(18));
+    file
+}
+
+#[test]
+fn the_part_found_is_of_the_file_that_has_the_name() {
+    let (site, fleet) = (file(b"W       ", "A"), [file(b"W       ", "B"), file(b"X       ", "C")]);
+    let in_site = file_lookup(&site, &fleet[0], b"W       ").unwrap();
+    assert_eq!((in_site.whose, in_site.part(&site, &fleet[0])), (Whose::Site, &body("A").unwrap()[..]));
+    let in_fleet = file_lookup(&site, &fleet[1], b"X       ").unwrap();
+    assert_eq!((in_fleet.whose, in_fleet.part(&site, &fleet[1])), (Whose::Fleet, &body("C").unwrap()[..]));
+    assert_eq!(in_fleet.part(&site, &[]), []);
+    let missed = file_lookup(&site, &fleet[1], b"Y       ").unwrap_err();
+    assert_eq!(missed, Missed { whose: None, refusal: Refusal::Absent });
+}
+
 #[test]
 fn refusals_have_the_numbers_of_the_table() {
     let refusal = body("(A;B))").unwrap_err();

@@ -2,7 +2,7 @@
 use crate::show;
 use body::BodyCheck;
 
-pub fn run() {
+pub(crate) fn run() {
     check(b"body: A", &[0, 0, 0, 0, 0]);
     check(b"body: type 31", &[0, 31, 0, 0, 0]);
     check(b"body: type 32", &[0, 32, 0, 0, 0]);

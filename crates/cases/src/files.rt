@@ -8,7 +8,7 @@ use libc::STDOUT_FILENO;
 use refusal::Refusal;
 ghost use Prim.Native.Nat.{_≤_};
 
-pub fn run() {
+pub(crate) fn run() {
     smallest();
     find();
     cuts();
@@ -19,10 +19,10 @@ pub fn run() {
 fn smallest() {
     let mut out = [0u8; 20];
     write(&mut out);
-    bytes(&out);
+    bytes(b"file bytes", &out);
     let mut short = [7u8; 17];
     write(&mut short);
-    bytes(&short);
+    bytes(b"file bytes", &short);
 }
 
 fn write(out: &mut [u8]) {
@@ -32,8 +32,9 @@ fn write(out: &mut [u8]) {
     }
 }
 
-fn bytes(s: &[u8]) {
-    io::write_all(STDOUT_FILENO, b"file bytes");
+// A name and then the bytes of a slice, on a line of their own.
+fn bytes(name: &[u8], s: &[u8]) {
+    io::write_all(STDOUT_FILENO, name);
     let mut i: usize = 0;
     while i < s.len() {
         io::write_all(STDOUT_FILENO, b" ");
@@ -50,28 +51,11 @@ fn wide(b: u8) -> u64 {
 // Site first; a name that is in neither, or malformed, is Absent; a broken file is refused, site examined first.
 fn find() {
     let site = two();
-    let fleet = [
-        1u8,
-        87,
-        32,
-        32,
-        32,
-        32,
-        32,
-        32,
-        32,
-        13,
-        0,
-        1,
-        0,
-        0,
-        0,
-        0,
-        0,
-        0,
-    ];
-    find_in(&site, &fleet);
-    find_broken(&site, &fleet);
+    let fleet = b"\x01W       \x0d\x00\x01\x00\x00\x00\x00\x00\x00";
+    find_in(&site, fleet);
+    find_broken(&site, fleet);
+    parts_in(&site, fleet);
+    parts_of_both(&site);
 }
 
 fn find_in(site: &[u8], fleet: &[u8]) {
@@ -85,6 +69,41 @@ fn find_in(site: &[u8], fleet: &[u8]) {
 fn find_broken(site: &[u8], fleet: &[u8]) {
     looked(b"lookup: site broken", &site[0..0], fleet, b"W       ");
     looked(b"lookup: fleet broken", site, &fleet[0..0], b"STEP    ");
+}
+
+// The part that a lookup returns: of the site file, of the fleet file, and empty where there is none.
+fn parts_in<'a>(site: &'a [u8], fleet: &'a [u8]) {
+    part(b"part: STEP, in the site file", site, fleet, b"STEP    ");
+    part(b"part: W, in the fleet file", site, fleet, b"W       ");
+    part(b"part: X, in neither file", site, fleet, b"X       ");
+    part(
+        b"part: STEP, fleet file broken",
+        site,
+        &fleet[0..0],
+        b"STEP    ",
+    );
+    part(
+        b"part: W, site file broken",
+        &site[0..0],
+        fleet,
+        b"W       ",
+    );
+}
+
+// The pattern `D` under the name STEP, which the other file has too: the site's part is returned.
+fn parts_of_both(two: &[u8]) {
+    let one = b"\x01STEP    \x0d\x00\x01\x00\x00\x03\x00\x00\x00";
+    part(b"part: STEP, in both files", two, one, b"STEP    ");
+    part(
+        b"part: STEP, in both files, exchanged",
+        one,
+        two,
+        b"STEP    ",
+    );
+}
+
+fn part<'a>(name: &[u8], site: &'a [u8], fleet: &'a [u8], wanted: &[u8]) {
+    bytes(name, file::lookup(site, fleet, wanted));
 }
 
 // Prints the offset and the length of the body found, the site's; 1000 more for the fleet's.

@@ -6,7 +6,7 @@ use watching::Chunking;
 use watching::Finishing;
 use watching::Run;
 
-pub fn run() {
+pub(crate) fn run() {
     one(b"watch, empty line 1: ", b"");
     one(b"watch, pattern alone: ", b"(S;P)");
     one(b"watch, pattern cut short: ", b"(S;P");

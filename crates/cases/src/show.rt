@@ -3,7 +3,7 @@ use libc::STDOUT_FILENO;
 use refusal::Refusal;
 
 // A name and three numbers, on a line of their own.
-pub fn line(name: &[u8], first: u64, second: u64, third: u64) {
+pub(crate) fn line(name: &[u8], first: u64, second: u64, third: u64) {
     io::write_all(STDOUT_FILENO, name);
     number(first);
     number(second);
@@ -12,7 +12,7 @@ pub fn line(name: &[u8], first: u64, second: u64, third: u64) {
 }
 
 // A refusal by its number, place and entry.
-pub fn refused(name: &[u8], r: Refusal) {
+pub(crate) fn refused(name: &[u8], r: Refusal) {
     line(
         name,
         refusal::number(r),
@@ -22,7 +22,7 @@ pub fn refused(name: &[u8], r: Refusal) {
 }
 
 // The first bytes of a slice, if it has so many.
-pub fn first(bytes: &[u8], n: usize) {
+pub(crate) fn first(bytes: &[u8], n: usize) {
     if n <= bytes.len() {
         io::write_all(STDOUT_FILENO, &bytes[0..n]);
     }

@@ -4,7 +4,7 @@ use libc::STDOUT_FILENO;
 use text::Printing;
 use text::Reading;
 
-pub fn run() {
+pub(crate) fn run() {
     read(b"text: empty", b"");
     read(b"text: (A;B", b"(A;B");
     read(b"text: (A;B))", b"(A;B))");

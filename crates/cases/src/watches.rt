@@ -5,7 +5,7 @@ use watcher::Needed;
 use watcher::Opening;
 use watcher::Ticking;
 
-pub fn run() {
+pub(crate) fn run() {
     room_of(b"room: (A;(B;C))", b"(A;(B;C))");
     room_of(b"room: A", b"A");
     room_of(b"room: ((A+B)-C)", b"((A+B)-C)");

@@ -10,6 +10,7 @@ mod rules;
 
 mod files;
 mod patterns;
+mod program;
 mod sets;
 mod watching;
 mod words;

@@ -3,6 +3,7 @@
 pub mod body;
 pub mod file;
 pub mod instances;
+pub mod log;
 pub mod set;
 pub mod state;
 pub mod tally;
