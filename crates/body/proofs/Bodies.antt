@@ -8,6 +8,7 @@ use mathlib.Core.List.{List, [], _∷_, append-nil}
 use mathlib.Core.Option.{Option, none, some}
 use native.Mathlib.Omega.{arith}
 use lib.ListN.{length}
+use Rattle.rules.proofs.Decisions.{true-or-false}
 use Rattle.rules.specs.Pattern.{Pattern, event, pair, within, size, Proper}
 use Rattle.refusal.specs.declared.Refusal.the-variants.{Size}
 use Rattle.refusal.specs.Table.{brokenAt}
@@ -37,7 +38,7 @@ entries-encode width w e h =
     rw (whole-count width (length b) (length (postfix e)) (length-entries width (postfix e)))
     (entries-bytes width w (postfix e) (proper-fits (256 ^ width) e h))
 
-scan-whole : (e : Pattern) → scan (postfix e) 0 0 ≡ none
+pub scan-whole : (e : Pattern) → scan (postfix e) 0 0 ≡ none
 unfolding scan
 scan-whole e = rw (append-nil (postfix e)) at (scan-postfix e [] 0 0)
 
@@ -144,9 +145,6 @@ sized-counted : (width n : ℕ) → sized width n ≡ true → Counted width n
 sized-counted width n p =
     let w = sized-whole width n p in
     record { count = n / (width + 1); full = w .full; least = w .least; most = w .most }
-
-true-or-false : (t : Bool) → t ≡ true → t ≡ false → ⊥
-true-or-false t p q = let z : _≡_ {A = ℕ} 0 1 = cc in omega arith
 
 not-true : (t : Bool) → (t ≡ true → ⊥) → t ≡ false
 not-true true h = absurd (h refl)

@@ -1,7 +1,7 @@
 -- Numbers and their bytes, each law by one induction on the number of bytes. Assumes nothing.
 use Prim.Native.Nat.{ℕ, zero, suc, _+_, _*_, _/_, _%_, _<_, _≤_, _^_}
 use mathlib.Core.Path.{_≡_, refl, sym, ap, ap₂, _∙_}
-use mathlib.Core.List.{List, _∷_, _++_}
+use mathlib.Core.List.{List, [], _∷_, _++_}
 use native.Mathlib.Nat.{pow-suc}
 use native.Mathlib.Numerals.{add-one}
 use native.Mathlib.Omega.{arith}
@@ -56,3 +56,13 @@ bytes-value (suc width) b k w h =
     let l : k < length b = omega arith in
     rw (low (getD b k 0) (valueAt width b (k + 1)) (w k), high (getD b k 0) (valueAt width b (k + 1)) (w k), drop-cons b k 0 l, ← add-one k)
     (ap (λ (r : List ℕ). getD b k 0 ∷ r) (bytes-value width b (k + 1) w (omega arith)))
+
+-- parts of bytes are bytes
+pub bytes-take : (n : ℕ) (l : List ℕ) → Bytes l → Bytes (take n l)
+bytes-take zero l w k = omega arith
+bytes-take (suc n) [] w k = w k
+bytes-take (suc n) (x ∷ l) w zero = w 0
+bytes-take (suc n) (x ∷ l) w (suc k) = bytes-take n l (λ j. w (suc j)) k
+
+pub bytes-drop : (n : ℕ) (l : List ℕ) → Bytes l → Bytes (drop n l)
+bytes-drop n l w k = rw (getD-drop n l k 0) (w (n + k))

@@ -139,7 +139,7 @@ read-fits width b i = go (leb ((i + 1) * (width + 1)) (length b))
     go false = tt
 
 -- an op number from 1 to 4 is that of its operator
-op-number : (op : ℕ) → (op ≡ 0 → ⊥) → op < 5 → opNumber (opOf op) ≡ op
+pub op-number : (op : ℕ) → (op ≡ 0 → ⊥) → op < 5 → opNumber (opOf op) ≡ op
 op-number op z h = go (eqb op 1) (eqb op 2) (eqb op 3) refl refl refl
   where
     go : (t₁ t₂ t₃ : Bool) → eqb op 1 ≡ t₁ → eqb op 2 ≡ t₂ → eqb op 3 ≡ t₃

@@ -9,6 +9,7 @@ use native.Mathlib.Omega.{arith}
 use lib.Dec.{eqb, leb}
 use lib.ListN.{length}
 use borrow.Author.Tests.{eq-eqb, le-leb, eqb-true, leb-true}
+use Rattle.rules.proofs.Impossible.{impossible}
 use Rattle.rules.specs.Limits.{mostEntries}
 use Rattle.refusal.specs.declared.Refusal.the-variants.{Size}
 use Rattle.refusal.specs.Table.{entryOf, brokenAt}
@@ -33,9 +34,9 @@ sized-whole width n p = go (eqb (n % (width + 1)) 0) (leb (width + 1) n) (leb n 
       least = le-div-iff-mul-le {k = width + 1} {x = 1} {y = n} (omega arith) .1 (omega (arith, leb-true (width + 1) n q));
       most = div-le-of-le-mul (width + 1) {m = n} {n = 63} (omega (arith, leb-true n (mostEntries * (width + 1)) r));
     }
-    go true true false p q r h = let z : _≡_ {A = ℕ} 0 1 = cc in absurd (omega arith)
-    go true false t₃ p q r h = let z : _≡_ {A = ℕ} 0 1 = cc in absurd (omega arith)
-    go false t₂ t₃ p q r h = let z : _≡_ {A = ℕ} 0 1 = cc in absurd (omega arith)
+    go true true false p q r h = impossible cc
+    go true false t₃ p q r h = impossible cc
+    go false t₂ t₃ p q r h = impossible cc
 
 -- k entries, 1 to 63, pass
 module _ (width n k : ℕ) (e : n ≡ (width + 1) * k) where
@@ -53,17 +54,17 @@ module _ (width n k : ℕ) (e : n ≡ (width + 1) * k) where
 -- the check's answer, by the test of the length and the scan of the entries
 sound-cond : (t : Bool) (o : Option ℕ) → cond t (verdict 0 o) (Refused Size) ≡ Sound → (t ≡ true) × (o ≡ none)
 sound-cond true none p = (refl, refl)
-sound-cond true (some i) p = let z : _≡_ {A = ℕ} 0 1 = cc in absurd (omega arith)
-sound-cond false o p = let z : _≡_ {A = ℕ} 0 1 = cc in absurd (omega arith)
+sound-cond true (some i) p = impossible cc
+sound-cond false o p = impossible cc
 
 body-cond : (t : Bool) (o : Option ℕ) (i : ℕ) → cond t (verdict 0 o) (Refused Size) ≡ Refused (brokenAt 0 i) → (t ≡ true) × (o ≡ some i)
-body-cond true none i p = let z : _≡_ {A = ℕ} 0 1 = cc in absurd (omega arith)
+body-cond true none i p = impossible cc
 body-cond true (some j) i p = let q : brokenAt 0 j ≡ brokenAt 0 i = cc in (refl, ap some (ap entryOf q))
-body-cond false o i p = let z : _≡_ {A = ℕ} 0 1 = cc in absurd (omega arith)
+body-cond false o i p = impossible cc
 
 size-cond : (t : Bool) (o : Option ℕ) → cond t (verdict 0 o) (Refused Size) ≡ Refused Size → t ≡ false
-size-cond true none p = let z : _≡_ {A = ℕ} 0 1 = cc in absurd (omega arith)
-size-cond true (some i) p = let z : _≡_ {A = ℕ} 0 1 = cc in absurd (omega arith)
+size-cond true none p = impossible cc
+size-cond true (some i) p = impossible cc
 size-cond false o p = refl
 
 module _ (width : ℕ) (b : List ℕ) where

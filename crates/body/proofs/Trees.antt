@@ -9,6 +9,7 @@ use native.Mathlib.Omega.{arith}
 use lib.ListN.{length, getD, drop, length-append, take-append-drop, drop-of-length-le}
 use lib.Seq.{take-at, getD-at, drop-cons, length-take-le}
 use borrow.Author.Tests.{le-leb, lt-leb, ne-eqb}
+use Rattle.rules.proofs.Impossible.{impossible}
 use Rattle.rules.specs.declared.Op.{Op}
 use Rattle.rules.specs.Lists.{All}
 use Rattle.rules.specs.Pattern.{Pattern, event, pair, within, size, Proper}
@@ -157,7 +158,7 @@ scan-outcome (Wrong ∷ ss) st i p h = broken-at Wrong ss st i p tt
 -- entries that pass are those of a tree
 pub scan-tree : (es : List Entry) → scan es 0 0 ≡ none → (e : Pattern) × (es ≡ postfix e)
 unfolding scan forest
-scan-tree [] p = let z : _≡_ {A = ℕ} 0 1 = cc in absurd (omega arith)
+scan-tree [] p = impossible cc
 scan-tree (s ∷ ss) p = subst (Outcome (s ∷ ss)) p (scan-outcome (s ∷ ss) [] 0 refl (omega arith))
 
 pub lowest-le : (es : List Entry) (i : ℕ) → Lowest es i → i ≤ length es

@@ -5,10 +5,10 @@ use mathlib.Core.Bool.{Bool, true, false, cond}
 use mathlib.Core.List.{List}
 use mathlib.Core.Option.{Option, none, some}
 use native.Mathlib.Nat.{sub-zero}
-use native.Mathlib.Omega.{arith}
 use lib.Dec.{leb}
 use lib.ListN.{length}
 use borrow.Author.Tests.{leb-true}
+use Rattle.rules.proofs.Impossible.{impossible}
 use Rattle.rules.specs.declared.Op.{Op}
 use Rattle.rules.specs.Limits.{mostEntries}
 use Rattle.body.specs.declared.Entry.{Entry}
@@ -35,12 +35,9 @@ run-end M f n i st g h = rw (left-zero n i h)
 abbrev pub Rest : (ℕ → Entry) → ℕ → ℕ → ℕ → Type 0
 Rest f n i d = scan (entriesBy f i (n - i)) i d ≡ none
 
-not-none : {A : Type 0} (i : ℕ) → _≡_ {A = Option ℕ} (some i) none → A
-not-none i p = let z : _≡_ {A = ℕ} 0 1 = cc in absurd (omega arith)
-
-cond-rest : (t : Bool) (e i : ℕ) (f : ℕ → Option ℕ) → onDepth (cond t (To e) Lacks) (some i) f ≡ none → (t ≡ true) × (f e ≡ none)
+pub cond-rest : (t : Bool) (e i : ℕ) (f : ℕ → Option ℕ) → onDepth (cond t (To e) Lacks) (some i) f ≡ none → (t ≡ true) × (f e ≡ none)
 cond-rest true e i f p = (refl, p)
-cond-rest false e i f p = not-none i p
+cond-rest false e i f p = impossible cc
 
 module _ (f : ℕ → Entry) (n i d : ℕ) (h : i < n) (r : Rest f n i d) where
   turned : (s : Entry) → f i ≡ s → onDepth (depthOf s d) (some i) (λ e. scan (entriesBy f (i + 1) (n - (i + 1))) (i + 1) e) ≡ none
@@ -64,7 +61,7 @@ module _ (f : ℕ → Entry) (n i d : ℕ) (h : i < n) (r : Rest f n i d) where
 
   pub rest-wrong : f i ≡ Wrong → ⊥
   unfolding depthOf
-  rest-wrong e = not-none i (turned Wrong e)
+  rest-wrong e = let p = turned Wrong e in impossible cc
 
 -- where the walk over a sound body begins
 pub record Start (width : ℕ) (b : List ℕ) : Type 0 where

@@ -2,11 +2,10 @@
 use mathlib.Core.Path.{_≡_, refl}
 use mathlib.Core.Bool.{Bool, true, false, cond}
 use mathlib.Core.List.{List, [], _∷_}
-use Prim.Native.Nat.{ℕ}
 use native.Mathlib.Decide.{decLe, decLt, ℕ-discrete}
-use native.Mathlib.Omega.{arith}
 use lib.Dec.{eqb}
 use borrow.Author.Tests.{eqb-true}
+use Rattle.rules.proofs.Decisions.{both-true}
 use Rattle.rules.specs.Bits.{bit}
 use Rattle.rules.specs.Lists.{All}
 use Rattle.rules.specs.Pattern.{size}
@@ -34,16 +33,12 @@ RowsHold (windows e l ∷ cs) = RowsHold cs
 RowsHold (rows e words shown ∷ cs) = Holds (rows e words shown) × RowsHold cs
 RowsHold (room e n ∷ cs) = RowsHold cs
 
-passed : (a b : Bool) → cond a b false ≡ true → (a ≡ true) × (b ≡ true)
-passed true b p = (refl, p)
-passed false b p = let z : _≡_ {A = ℕ} 0 1 = cc in absurd (omega arith)
-
 hold : (cs : List Case) → tested cs ≡ true → RowsHold cs → All Holds cs
 unfolding tested
 hold [] t r = tt
-hold (windows e l ∷ cs) t r = let q = passed (given e (fresh e) 0 l) (tested cs) t in (seen e l (q .0), hold cs (q .1) r)
+hold (windows e l ∷ cs) t r = let q = both-true (given e (fresh e) 0 l) (tested cs) t in (seen e l (q .0), hold cs (q .1) r)
 hold (rows e words shown ∷ cs) t r = (r .0, hold cs t (r .1))
-hold (room e n ∷ cs) t r = let q = passed (eqb (roomOf e) n) (tested cs) t in (eqb-true (roomOf e) n (q .0), hold cs (q .1) r)
+hold (room e n ∷ cs) t r = let q = both-true (eqb (roomOf e) n) (tested cs) t in (eqb-true (roomOf e) n (q .0), hold cs (q .1) r)
 
 pub all-hold : AllHold
 unfolding tested size cellRoom cellWords p given answer next later choose better gather keep insert fresh bit decLe decLt ℕ-discrete

@@ -3,9 +3,9 @@ use mathlib.Core.Path.{_≡_, refl}
 use mathlib.Core.Bool.{Bool, true, false, cond}
 use mathlib.Core.List.{List, [], _∷_, _++_}
 use Prim.Native.Nat.{ℕ, suc, _≤_}
-use native.Mathlib.Omega.{arith}
 use lib.Dec.{leb, eqb}
 use borrow.Author.Tests.{leb-true, eqb-true}
+use Rattle.rules.proofs.Impossible.{impossible}
 use Rattle.rules.specs.Pattern.{Pattern}
 use Rattle.rules.specs.History.{Tick, Rising, nextTick}
 use Rattle.detector.specs.Memory.{Memory, fresh}
@@ -47,8 +47,8 @@ test-gives e m τ (k ∷ l) p =
         → (given e (next e m (k .0) (k .1)) (suc (k .0)) l ≡ true → Gives e (next e m (k .0) (k .1)) (suc (k .0)) l)
         → cond a (cond b (given e (next e m (k .0) (k .1)) (suc (k .0)) l) false) false ≡ true → Gives e m τ (k ∷ l)
     go true true q r f p = (leb-true τ (k .0) q, eqb-true (answer e m (k .0) (k .1)) (k .2) r, f p)
-    go true false q r f p = let z : _≡_ {A = ℕ} 0 1 = cc in absurd (omega arith)
-    go false b q r f p = let z : _≡_ {A = ℕ} 0 1 = cc in absurd (omega arith)
+    go true false q r f p = impossible cc
+    go false b q r f p = impossible cc
 
 pub seen : (e : Pattern) (l : List Seen) → given e (fresh e) 0 l ≡ true → SeenAfter e [] l
 unfolding run run-from

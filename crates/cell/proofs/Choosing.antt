@@ -7,6 +7,7 @@ use native.Mathlib.Decide.{decLt}
 use native.Mathlib.Omega.{arith}
 use lib.ListN.{length, drop, getD}
 use lib.Seq.{drop-length}
+use Rattle.rules.proofs.Lists.{drop-at}
 use Rattle.rules.specs.Decisions.{pick}
 use Rattle.rules.proofs.Decisions.{pick-yes, pick-no}
 use Rattle.detector.specs.Memory.{Span, none}
@@ -17,7 +18,7 @@ use Rattle.cell.specs.Words.{spanAt, keptOf}
 use Rattle.cell.specs.Cell.{pairsOf}
 use Rattle.cell.specs.Pairs.{spansFrom}
 use Rattle.cell.specs.Calls.{PairsIn, InsertReady, Grown}
-use Rattle.cell.proofs.Pairs.{drop-one, spans-first, spans-end, spans-last}
+use Rattle.cell.proofs.Pairs.{spans-first, spans-end, spans-last}
 use Rattle.cell.proofs.Pairs.{kept-more}
 
 -- ---- counted
@@ -112,7 +113,7 @@ pub gather-turn :
 unfolding gather
 gather-turn old ys i p l z h e k =
     let j : i ≡ i - 1 + 1 = omega arith in
-    ap₂ keep e (k ∙ ap (λ (n : ℕ). gather old (drop n ys)) j) ∙ ap (gather old) (sym (drop-one ys (i - 1) (omega arith)))
+    ap₂ keep e (k ∙ ap (λ (n : ℕ). gather old (drop n ys)) j) ∙ ap (gather old) (sym (drop-at ys (i - 1) (omega arith)))
 
 pub gather-begin : (s : List ℕ) (old : List Span) (ys : List ℕ) → spansFrom s 0 0 ≡ gather old (drop (length ys) ys)
 unfolding spansFrom gather

@@ -6,12 +6,13 @@ use Prim.Native.Nat.{ℕ, _+_, _≤_, _<_}
 use lib.Dec.{eqb}
 use lib.ListN.{length, drop, getD, drop-of-length-le}
 use borrow.Author.Tests.{eq-eqb, ne-eqb, lt-ltb, le-ltb}
+use Rattle.rules.proofs.Lists.{drop-at}
 use Rattle.rules.specs.declared.Op.{Op}
 use Rattle.rules.specs.declared.Op.the-variants.{Either}
 use Rattle.cell.specs.Cell.{cellWords}
 use Rattle.cell.specs.Form.{pairFits, allZero, keptFits, cellFits, sizeFits, cellInForm}
 use Rattle.cell.proofs.Sizes.{size-fits}
-use Rattle.cell.proofs.Pairs.{drop-one, drop-two}
+use Rattle.cell.proofs.Pairs.{drop-two}
 
 pub all-zero-end : (c : List ℕ) (at : ℕ) → length c ≤ at → allZero (drop at c) ≡ true
 unfolding allZero
@@ -19,11 +20,11 @@ all-zero-end c at h = rw (drop-of-length-le c h)
 
 pub all-zero-turn : (c : List ℕ) (at : ℕ) → at < length c → getD c at 0 ≡ 0 → allZero (drop at c) ≡ allZero (drop (at + 1) c)
 unfolding allZero
-all-zero-turn c at h z = rw (drop-one c at h, eq-eqb (getD c at 0) 0 z)
+all-zero-turn c at h z = rw (drop-at c at h, eq-eqb (getD c at 0) 0 z)
 
 pub all-zero-not : (c : List ℕ) (at : ℕ) → at < length c → (getD c at 0 ≡ 0 → ⊥) → allZero (drop at c) ≡ false
 unfolding allZero
-all-zero-not c at h z = rw (drop-one c at h, ne-eqb (getD c at 0) 0 z)
+all-zero-not c at h z = rw (drop-at c at h, ne-eqb (getD c at 0) 0 z)
 
 -- the kept pairs from a place on
 pub kept-fits-end : (τ last : ℕ) (c : List ℕ) (at : ℕ) → length c ≤ at → keptFits τ last (drop at c) ≡ true

@@ -6,19 +6,17 @@ use native.Mathlib.Decide.{ℕ-discrete}
 use native.Mathlib.Omega.{arith}
 use native.Mathlib.Numerals.{add-one}
 use lib.ListN.{length, drop, getD, set, length-set, drop-of-length-le}
-use lib.Seq.{drop-cons, getD-set-same, getD-set-other}
+use lib.Seq.{getD-set-same, getD-set-other}
+use Rattle.rules.proofs.Lists.{drop-at}
 use Rattle.rules.proofs.Decisions.{pick-yes, pick-no}
 use Rattle.detector.specs.Memory.{Span}
 use Rattle.cell.specs.Words.{spanAt, keptOf}
 use Rattle.cell.specs.Pairs.{spansFrom, putSpan}
 
-pub drop-one : (c : List ℕ) (at : ℕ) → at < length c → drop at c ≡ getD c at 0 ∷ drop (at + 1) c
-drop-one c at h = rw (add-one at) (drop-cons c at 0 h)
-
 pub drop-two : (c : List ℕ) (at : ℕ) → at + 1 < length c → drop at c ≡ getD c at 0 ∷ getD c (at + 1) 0 ∷ drop (at + 2) c
 drop-two c at h =
     let e : at + 1 + 1 ≡ at + 2 = omega arith in
-    drop-one c at (omega arith) ∙ ap (λ (l : List ℕ). getD c at 0 ∷ l) (drop-one c (at + 1) h ∙ ap (λ (n : ℕ). getD c (at + 1) 0 ∷ drop n c) e)
+    drop-at c at (omega arith) ∙ ap (λ (l : List ℕ). getD c at 0 ∷ l) (drop-at c (at + 1) h ∙ ap (λ (n : ℕ). getD c (at + 1) 0 ∷ drop n c) e)
 
 -- ---- pairs from a place on
 

@@ -5,6 +5,7 @@ use Prim.Native.Nat.{ℕ, _+_, _*_, _%_, _≤_, _<_}
 use native.Mathlib.Omega.{arith}
 use lib.Dec.{leb, eqb}
 use borrow.Author.Tests.{leb-true, eqb-true, le-leb, lt-leb, eq-eqb}
+use Rattle.rules.proofs.Decisions.{both-true}
 use Rattle.rules.specs.declared.Op.{Op}
 use Rattle.rules.specs.declared.Op.the-variants.{Either, Both, Without, Chain}
 use Rattle.cell.specs.Cell.{cellWords}
@@ -18,10 +19,6 @@ size-fits Either y = refl
 size-fits Both y = refl
 size-fits Without y = refl
 size-fits Chain y = rw (le-leb 2 (2 * (1 + y)) (omega arith)) (eq-eqb (2 * (1 + y) % 2) 0 (omega arith))
-
-both-true : (a b : Bool) → cond a b false ≡ true → (a ≡ true) × (b ≡ true)
-both-true true b q = (refl, q)
-both-true false b q = let z : _≡_ {A = ℕ} 0 1 = cc in absurd (omega arith)
 
 pub chain-paired : (n : ℕ) → sizeFits Chain n ≡ true → Paired n
 unfolding sizeFits

@@ -10,7 +10,7 @@ use lib.ListN.{length, length-append}
 use Rattle.rules.specs.declared.Op.the-variants.{Either, Both, Without, Chain}
 use Rattle.rules.specs.Bits.{bit}
 use Rattle.rules.specs.Lists.{In, All}
-use Rattle.rules.specs.Pattern.{Pattern, event, pair, within}
+use Rattle.rules.specs.Pattern.{Pattern, event, pair, within, size}
 use Rattle.rules.proofs.Lists.{in-cases, in-one, in-two, all-map}
 use Rattle.detector.specs.Memory.{Span, none, Memory, fresh}
 use Rattle.detector.specs.Possible.{startsOf, starts, p}
@@ -139,3 +139,13 @@ in-form t w τ k (pair Chain x y) m f =
       search (gather-length, length-starts),
     )
 in-form t w τ k (within x n) m f = in-form t w τ k x m f
+
+-- a pattern has fewer possible starts than entries
+pub p-size : (e : Pattern) → p e + 1 ≤ size e
+unfolding p size
+p-size (event n) = omega arith
+p-size (pair Either x y) = omega (arith, p-size x, p-size y)
+p-size (pair Both x y) = omega (arith, p-size x, p-size y)
+p-size (pair Without x y) = omega (arith, p-size x, p-size y)
+p-size (pair Chain x y) = omega (arith, p-size x, p-size y)
+p-size (within x n) = omega (arith, p-size x)

@@ -10,6 +10,7 @@ use lib.Dec.{leb, eqb}
 use lib.ListN.{length, getD, take, drop}
 use lib.Seq.{take-at}
 use borrow.Author.Tests.{le-leb, lt-leb, eq-eqb, ne-eqb, leb-true, eqb-true}
+use Rattle.rules.proofs.Impossible.{impossible}
 use Rattle.rules.specs.Limits.{mostEntries, mostPatterns}
 use Rattle.refusal.specs.declared.Refusal.{Refusal}
 use Rattle.refusal.specs.declared.Refusal.the-variants.{Count, Size}
@@ -23,12 +24,12 @@ use Rattle.file.specs.Judged.{EntryRight}
 
 -- an entry is refused, or what follows decides
 pub entry-refused : (o : Option ℕ) (r : Refusal) (rest : FileCheck) → onEntry o Sound ≡ Refused r → Refused r ≡ onEntry o rest
-entry-refused none r rest p = let z : _≡_ {A = ℕ} 0 1 = cc in absurd (omega arith)
+entry-refused none r rest p = impossible cc
 entry-refused (some i) r rest p = sym p
 
 pub entry-sound : (o : Option ℕ) → onEntry o Sound ≡ Sound → o ≡ none
 entry-sound none p = refl
-entry-sound (some i) p = let z : _≡_ {A = ℕ} 0 1 = cc in absurd (omega arith)
+entry-sound (some i) p = impossible cc
 
 -- the answer for parts, one law for each way out
 module _ (names counts bodies : List ℕ) where
@@ -95,14 +96,14 @@ gates : (t₁ t₂ t₃ : Bool) (o : Option ℕ) (rest : FileCheck)
     → cond t₁ (cond t₂ (cond t₃ (onEntry o rest) (Refused Count)) (Refused Count)) (Refused Count) ≡ Sound
     → (t₁ ≡ true) × (t₂ ≡ true) × (t₃ ≡ true) × (o ≡ none) × (rest ≡ Sound)
 gates true true true none rest p = (refl, refl, refl, refl, p)
-gates true true true (some i) rest p = let z : _≡_ {A = ℕ} 0 1 = cc in absurd (omega arith)
-gates true true false o rest p = let z : _≡_ {A = ℕ} 0 1 = cc in absurd (omega arith)
-gates true false t₃ o rest p = let z : _≡_ {A = ℕ} 0 1 = cc in absurd (omega arith)
-gates false t₂ t₃ o rest p = let z : _≡_ {A = ℕ} 0 1 = cc in absurd (omega arith)
+gates true true true (some i) rest p = impossible cc
+gates true true false o rest p = impossible cc
+gates true false t₃ o rest p = impossible cc
+gates false t₂ t₃ o rest p = impossible cc
 
 sized-gate : (t : Bool) (rest : FileCheck) → cond t rest (Refused Size) ≡ Sound → (t ≡ true) × (rest ≡ Sound)
 sized-gate true rest p = (refl, p)
-sized-gate false rest p = let z : _≡_ {A = ℕ} 0 1 = cc in absurd (omega arith)
+sized-gate false rest p = impossible cc
 
 pub record BodiesSound (counts bodies : List ℕ) : Type 0 where
   pub full : length bodies ≡ total counts
@@ -189,10 +190,10 @@ entry-kept before name n p = go (named name) (below before name) (leb 1 n) (leb 
     go : (t₁ t₂ t₃ t₄ : Bool) → named name ≡ t₁ → below before name ≡ t₂ → leb 1 n ≡ t₃ → leb n mostEntries ≡ t₄
         → cond t₁ (cond t₂ (cond t₃ t₄ false) false) false ≡ true → EntryRight before name n
     go true true true true p q r s h = record { well = p; rises = q; least = leb-true 1 n r; most = leb-true n mostEntries s }
-    go true true true false p q r s h = let z : _≡_ {A = ℕ} 0 1 = cc in absurd (omega arith)
-    go true true false t₄ p q r s h = let z : _≡_ {A = ℕ} 0 1 = cc in absurd (omega arith)
-    go true false t₃ t₄ p q r s h = let z : _≡_ {A = ℕ} 0 1 = cc in absurd (omega arith)
-    go false t₂ t₃ t₄ p q r s h = let z : _≡_ {A = ℕ} 0 1 = cc in absurd (omega arith)
+    go true true true false p q r s h = impossible cc
+    go true true false t₄ p q r s h = impossible cc
+    go true false t₃ t₄ p q r s h = impossible cc
+    go false t₂ t₃ t₄ p q r s h = impossible cc
 
 pub right-kept : (before name : List ℕ) (n : ℕ) → EntryRight before name n → entryKept before name n ≡ true
 unfolding entryKept
@@ -200,7 +201,7 @@ right-kept before name n k = rw (k .well, k .rises, le-leb 1 n (k .least), le-le
 
 cond-none : (t : Bool) (o : Option ℕ) (i : ℕ) → cond t o (some i) ≡ none → (t ≡ true) × (o ≡ none)
 cond-none true o i p = (refl, p)
-cond-none false o i p = let z : _≡_ {A = ℕ} 0 1 = cc in absurd (omega arith)
+cond-none false o i p = impossible cc
 
 -- no entry breaks a rule: neither the first nor one of those after it
 pub entries-first : (before names : List ℕ) (n : ℕ) (counts : List ℕ) (i : ℕ) → brokenEntry before names (n ∷ counts) i ≡ none
@@ -229,9 +230,9 @@ content-kept before c offset p =
     go : (t₁ t₂ t₃ : Bool) → entryKept before (take nameBytes c) (getD c 10 0) ≡ t₁ → eqb (valueAt 2 c 8) offset ≡ t₂ → eqb (getD c 11 0) 0 ≡ t₃
         → cond t₁ (cond t₂ t₃ false) false ≡ true → ContentKept before c offset
     go true true true p q r h = record { entry = p; begins = eqb-true (valueAt 2 c 8) offset q; zeros = eqb-true (getD c 11 0) 0 r }
-    go true true false p q r h = let z : _≡_ {A = ℕ} 0 1 = cc in absurd (omega arith)
-    go true false t₃ p q r h = let z : _≡_ {A = ℕ} 0 1 = cc in absurd (omega arith)
-    go false t₂ t₃ p q r h = let z : _≡_ {A = ℕ} 0 1 = cc in absurd (omega arith)
+    go true true false p q r h = impossible cc
+    go true false t₃ p q r h = impossible cc
+    go false t₂ t₃ p q r h = impossible cc
 
 pub contents-first : (before c : List ℕ) (k offset i : ℕ) → brokenContent before c (suc k) offset i ≡ none
     → (contentKept before c offset ≡ true)

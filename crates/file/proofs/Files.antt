@@ -8,6 +8,8 @@ use native.Mathlib.Omega.{arith}
 use lib.ListN.{length, getD, take, drop, length-append, length-drop, take-append-drop}
 use lib.Seq.{length-take-le, getD-drop, take-at, drop-at, take-add, drop-drop}
 use borrow.Author.Tests.{eq-eqb}
+use Rattle.body.proofs.Bytes.{bytes-take, bytes-drop}
+use Rattle.rules.proofs.Impossible.{impossible}
 use Rattle.rules.specs.Limits.{mostEntries}
 use Rattle.body.specs.Bytes.{bytesOf, valueAt, Bytes}
 use Rattle.body.proofs.Bytes.{value-drop, value-bytes, bytes-value}
@@ -108,15 +110,6 @@ bytes-append : (a b : List ℕ) → Bytes a → Bytes b → Bytes (a ++ b)
 bytes-append [] b u v k = v k
 bytes-append (x ∷ a) b u v zero = u 0
 bytes-append (x ∷ a) b u v (suc k) = bytes-append a b (λ j. u (suc j)) v k
-
-bytes-take : (n : ℕ) (l : List ℕ) → Bytes l → Bytes (take n l)
-bytes-take zero l w k = omega arith
-bytes-take (suc n) [] w k = w k
-bytes-take (suc n) (x ∷ l) w zero = w 0
-bytes-take (suc n) (x ∷ l) w (suc k) = bytes-take n l (λ j. w (suc j)) k
-
-bytes-drop : (n : ℕ) (l : List ℕ) → Bytes l → Bytes (drop n l)
-bytes-drop n l w k = rw (getD-drop n l k 0) (w (n + k))
 
 bytes-names : (c : List ℕ) (k : ℕ) → Bytes c → Bytes (namesIn c k)
 unfolding namesIn
@@ -243,7 +236,7 @@ written-sound names counts bodies p = sound-rest (length counts) _ (rest-made na
 -- the parts of a file that is accepted
 pub accepted-parts : (f : List ℕ) → Bytes f → checkOf f ≡ Sound → Parts f
 unfolding checkOf
-accepted-parts [] w p = let z : _≡_ {A = ℕ} 0 1 = cc in absurd (omega arith)
+accepted-parts [] w p = impossible cc
 accepted-parts (count ∷ f) w p =
     let k = rest-sound count f p in
     let v : Bytes f = λ j. w (suc j) in

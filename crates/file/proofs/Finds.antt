@@ -7,6 +7,8 @@ use native.Mathlib.Nat.{sub-zero}
 use native.Mathlib.Omega.{arith}
 use lib.ListN.{length, getD, take, drop}
 use lib.Seq.{drop-drop, getD-drop}
+use Rattle.rules.proofs.Lists.{drop-part}
+use Rattle.rules.proofs.Impossible.{impossible}
 use Rattle.refusal.specs.declared.Refusal.{Refusal}
 use Rattle.refusal.specs.declared.Refusal.the-variants.{Absent}
 use Rattle.body.specs.Bytes.{valueAt}
@@ -19,7 +21,6 @@ use Rattle.file.specs.declared.Place.the-variants.{At, Nowhere}
 use Rattle.file.specs.Contents.{bodyBytes, nameBytes, contentsBytes}
 use Rattle.file.specs.Check.{checkOf}
 use Rattle.file.specs.Lookup.{same, seek, placed, inFile, findingOf}
-use Rattle.file.proofs.Turns.{rest-part}
 use Rattle.file.proofs.Checks.{rest-sound}
 
 -- the name is not among the first i entries of a file's contents
@@ -32,7 +33,7 @@ pub record Sought (file name : List ℕ) (count i at : ℕ) : Type 0 where
 -- a sound file has a count
 pub sound-long : (file : List ℕ) → checkOf file ≡ Checks.Sound → 1 + contentsBytes * getD file 0 0 ≤ length file
 unfolding checkOf
-sound-long [] p = let z : _≡_ {A = ℕ} 0 1 = cc in absurd (omega arith)
+sound-long [] p = impossible cc
 sound-long (x ∷ f) p = omega (arith, rest-sound x f p .held)
 
 pub sought-none : (file name : List ℕ) (count : ℕ) → count ≡ getD file 0 0 → checkOf file ≡ Checks.Sound → Sought file name count 0 1
@@ -52,7 +53,7 @@ module _ {file name : List ℕ} {count i at : ℕ} (k : Sought file name count i
   unfolding seek
   seek-turn =
       let long : at + nameBytes - at ≡ nameBytes = omega arith in
-      rw (left-suc count i h, long, rest-part file at, getD-drop at file 10 0, drop-drop contentsBytes at file)
+      rw (left-suc count i h, long, drop-part file at, getD-drop at file 10 0, drop-drop contentsBytes at file)
 
   pub sought-here : {from n : ℕ} → same (take (at + nameBytes - at) (drop at file)) name ≡ true
       → from ≡ valueAt 2 (take (length file - at) (drop at file)) 8 → n ≡ getD file (at + 10) 0 → At from (bodyBytes n) ≡ placed file name

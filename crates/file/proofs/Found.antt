@@ -7,6 +7,7 @@ use mathlib.Core.Option.{Option, none, some}
 use native.Mathlib.Omega.{arith}
 use lib.ListN.{length, getD, take, drop, length-drop}
 use lib.Seq.{length-take-le, drop-drop}
+use Rattle.rules.proofs.Impossible.{impossible}
 use Rattle.rules.specs.Limits.{argumentBytes}
 use Rattle.body.specs.declared.BodyCheck.the-variants as Bodies
 use Rattle.body.specs.Bytes.{valueAt}
@@ -38,7 +39,7 @@ pub record BodyIn (file name : List ℕ) (from long : ℕ) : Type 0 where
 
 body-sound : (o : Option ℕ) (b : ℕ) (rest : FileCheck) → onBody o b rest ≡ Checks.Sound → (o ≡ none) × (rest ≡ Checks.Sound)
 body-sound none b rest p = (refl, p)
-body-sound (some i) b rest p = let z : _≡_ {A = ℕ} 0 1 = cc in absurd (omega arith)
+body-sound (some i) b rest p = impossible cc
 
 -- no body breaks a rule: neither the first nor one of those after it
 pub bodies-first : (n : ℕ) (counts bodies : List ℕ) (b : ℕ) → brokenBody (n ∷ counts) bodies b ≡ Checks.Sound
@@ -56,7 +57,7 @@ seek-found : (file before c name : List ℕ) (k offset i b from long : ℕ) → 
     → offset + total (countsIn c k) ≡ length file → brokenBody (countsIn c k) (drop offset file) b ≡ Checks.Sound → contentsBytes * k ≤ length c
     → seek c name k ≡ At from long → BodyIn file name from long
 unfolding seek countsIn total
-seek-found file before c name zero offset i b from long p q r g s = let z : _≡_ {A = ℕ} 0 1 = cc in absurd (omega arith)
+seek-found file before c name zero offset i b from long p q r g s = impossible cc
 seek-found file before c name (suc k) offset i b from long p q r g s =
     let n : ℕ = getD c 10 0 in
     let first = contents-first before c k offset i p in
@@ -90,7 +91,7 @@ seek-found file before c name (suc k) offset i b from long p q r g s =
 -- the body with a name in a sound file
 pub placed-found : (file name : List ℕ) (from long : ℕ) → checkOf file ≡ Checks.Sound → placed file name ≡ At from long → BodyIn file name from long
 unfolding checkOf
-placed-found [] name from long p s = let z : _≡_ {A = ℕ} 0 1 = cc in absurd (omega arith)
+placed-found [] name from long p s = impossible cc
 placed-found (count ∷ f) name from long p s =
     let k = rest-sound count f p in
     seek-found (count ∷ f) [] f name count (bodiesAt count) 0 0 from long (k .kept)
@@ -104,8 +105,8 @@ found-by : (site fleet : FileCheck) (a b : Place) (whose : Whose) (from long : �
     → ((from long : ℕ) → site ≡ Checks.Sound → a ≡ At from long → P Site from long)
     → ((from long : ℕ) → fleet ≡ Checks.Sound → b ≡ At from long → P Fleet from long)
     → P whose from long
-found-by (Checks.Refused r) fleet a b whose from long p P f g = let z : _≡_ {A = ℕ} 0 1 = cc in absurd (omega arith)
-found-by Checks.Sound (Checks.Refused r) a b whose from long p P f g = let z : _≡_ {A = ℕ} 0 1 = cc in absurd (omega arith)
+found-by (Checks.Refused r) fleet a b whose from long p P f g = impossible cc
+found-by Checks.Sound (Checks.Refused r) a b whose from long p P f g = impossible cc
 found-by Checks.Sound Checks.Sound (At x y) b whose from long p P f g =
     let u : Site ≡ whose = cc in
     let v : x ≡ from = cc in
@@ -116,7 +117,7 @@ found-by Checks.Sound Checks.Sound Nowhere (At x y) whose from long p P f g =
     let v : x ≡ from = cc in
     let w : y ≡ long = cc in
     rw (← u, ← v, ← w) (g x y refl refl)
-found-by Checks.Sound Checks.Sound Nowhere Nowhere whose from long p P f g = let z : _≡_ {A = ℕ} 0 1 = cc in absurd (omega arith)
+found-by Checks.Sound Checks.Sound Nowhere Nowhere whose from long p P f g = impossible cc
 
 pub finding-found : (site fleet name : List ℕ) (whose : Whose) (from long : ℕ) → findingOf site fleet name ≡ Found whose from long
     → BodyIn (fileFrom whose site fleet) name from long
@@ -130,12 +131,12 @@ pub broken-by : (site fleet : FileCheck) (a b : Place) (whose : Whose) (r : Refu
     → ifSound site Site (ifSound fleet Fleet (inFile a Site (inFile b Fleet (Refused Absent)))) ≡ Broken whose r
     → BrokenBy site fleet whose r
 broken-by (Checks.Refused s) fleet a b Site r p = cc
-broken-by (Checks.Refused s) fleet a b Fleet r p = let z : _≡_ {A = ℕ} 0 1 = cc in absurd (omega arith)
-broken-by Checks.Sound (Checks.Refused s) a b Site r p = let z : _≡_ {A = ℕ} 0 1 = cc in absurd (omega arith)
+broken-by (Checks.Refused s) fleet a b Fleet r p = impossible cc
+broken-by Checks.Sound (Checks.Refused s) a b Site r p = impossible cc
 broken-by Checks.Sound (Checks.Refused s) a b Fleet r p = (refl, cc)
-broken-by Checks.Sound Checks.Sound (At x y) b whose r p = let z : _≡_ {A = ℕ} 0 1 = cc in absurd (omega arith)
-broken-by Checks.Sound Checks.Sound Nowhere (At x y) whose r p = let z : _≡_ {A = ℕ} 0 1 = cc in absurd (omega arith)
-broken-by Checks.Sound Checks.Sound Nowhere Nowhere whose r p = let z : _≡_ {A = ℕ} 0 1 = cc in absurd (omega arith)
+broken-by Checks.Sound Checks.Sound (At x y) b whose r p = impossible cc
+broken-by Checks.Sound Checks.Sound Nowhere (At x y) whose r p = impossible cc
+broken-by Checks.Sound Checks.Sound Nowhere Nowhere whose r p = impossible cc
 
 -- the part that a lookup returns, one law for each way out
 module _ (site fleet name : List ℕ) where

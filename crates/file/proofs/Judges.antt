@@ -14,9 +14,12 @@ use lib.Dec.{eqb}
 use lib.ListN.{length, getD, take, drop, length-drop, drop-of-length-le, take-append-drop}
 use lib.Seq.{length-take-le, take-suc, drop-cons, drop-drop}
 use borrow.Author.Tests.{eq-eqb, ne-eqb, eqb-true, eqb-false}
+use Rattle.rules.proofs.Decisions.{true-or-false}
+use Rattle.rules.proofs.Impossible.{impossible}
 use Rattle.rules.specs.Limits.{argumentBytes, mostEntries}
 use Rattle.refusal.specs.declared.Refusal.{Refusal}
-use Rattle.refusal.specs.declared.Refusal.the-variants.{Count, Size, Body}
+use Rattle.refusal.specs.declared.Refusal.the-variants.{Count, Size}
+use Rattle.refusal.specs.Table.{entryOf, brokenAt}
 use Rattle.body.specs.declared.BodyCheck.{BodyCheck}
 use Rattle.body.specs.declared.BodyCheck.the-variants as Bodies
 use Rattle.body.specs.Bytes.{valueAt}
@@ -34,9 +37,6 @@ use Rattle.file.specs.Judged.Judged.{count, entry, size, body, sound}
 use Rattle.file.proofs.Checks.{entry-kept, right-kept, content-kept, length-counts}
 use Rattle.file.proofs.Files.{name-held, count-held}
 use Rattle.file.proofs.Turns.{total-turn, Searched, searched-none, searched-all, AtBody, searched-here, searched-more}
-
-true-or-false : (t : Bool) → t ≡ true → t ≡ false → ⊥
-true-or-false t p q = let z : _≡_ {A = ℕ} 0 1 = cc in omega arith
 
 -- one number more
 below-more : (P : ℕ → Type 0) (i : ℕ) → AllBelow i P → P i → AllBelow (suc i) P
@@ -102,11 +102,11 @@ total-more counts i h =
 -- what the search for a broken body says: none is broken, or the lowest that is
 data BodiesJudged (counts bodies : List ℕ) : FileCheck → Type 0 where
   broken : {b e : ℕ} → b < length counts → AllBelow b (BodyRight counts bodies)
-      → bodyCheck argumentBytes (bodyOf counts bodies b) ≡ Bodies.Refused (Body 0 e) → BodiesJudged counts bodies (Refused (Body b e))
+      → bodyCheck argumentBytes (bodyOf counts bodies b) ≡ Bodies.Refused (brokenAt 0 e) → BodiesJudged counts bodies (Refused (brokenAt b e))
   unbroken : AllBelow (length counts) (BodyRight counts bodies) → BodiesJudged counts bodies Sound
 
 not-both : (x : BodyCheck) {r : Refusal} → x ≡ Bodies.Refused r → x ≡ Bodies.Sound → ⊥
-not-both x p q = let z : _≡_ {A = ℕ} 0 1 = cc in omega arith
+not-both x p q = impossible cc
 
 -- it has one outcome
 bodies-one : {counts bodies : List ℕ} {r r′ : FileCheck} → BodiesJudged counts bodies r → BodiesJudged counts bodies r′ → r ≡ r′
@@ -115,9 +115,10 @@ bodies-one (unbroken a) (broken {b} h l p) = absurd (not-both _ p (a b h))
 bodies-one (broken {b} h l p) (unbroken a) = absurd (not-both _ p (a b h))
 bodies-one {counts} {bodies} (broken {b} {e} h l p) (broken {b = b′} {e = e′} h′ l′ p′) =
     let same : b ≡ b′ = lowest-one (BodyRight counts bodies) b b′ l (not-both _ p) l′ (not-both _ p′) in
-    let q : Bodies.Refused (Body 0 e) ≡ Bodies.Refused (Body 0 e′) =
+    let q : Bodies.Refused (brokenAt 0 e) ≡ Bodies.Refused (brokenAt 0 e′) =
     sym p ∙ ap (λ (i : ℕ). bodyCheck argumentBytes (bodyOf counts bodies i)) same ∙ p′ in
-    let place : e ≡ e′ = cc in
+    let r : brokenAt 0 e ≡ brokenAt 0 e′ = cc in
+    let place : e ≡ e′ = ap entryOf r in
     cc
 
 module _ (counts bodies : List ℕ) (whole : Whole counts bodies)

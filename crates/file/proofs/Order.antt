@@ -9,8 +9,9 @@ use native.Mathlib.Decide.{decLt}
 use native.Mathlib.Omega.{arith}
 use lib.Dec.{ltb, eqb}
 use lib.ListN.{length, getD, take, drop, length-drop}
-use lib.Seq.{drop-drop, length-take-le}
+use lib.Seq.{length-take-le}
 use borrow.Author.Tests.{lt-ltb, le-ltb, eq-eqb, ltb-true, eqb-true}
+use Rattle.rules.proofs.Impossible.{impossible}
 use Rattle.file.specs.declared.Place.the-variants.{At, Nowhere}
 use Rattle.file.specs.Contents.{below, bodyBytes, nameBytes, nameOf, contents, total}
 use Rattle.file.specs.Check.{brokenEntry}
@@ -26,7 +27,7 @@ below-cases a b l m p = go (ltb a b) (eqb a b) refl refl p
     go : (t u : Bool) → ltb a b ≡ t → eqb a b ≡ u → cond t true (cond u (below l m) false) ≡ true → (a < b) ⊎ ((a ≡ b) × (below l m ≡ true))
     go true u p q h = inl (ltb-true a b p)
     go false true p q h = inr (eqb-true a b q, h)
-    go false false p q h = let z : _≡_ {A = ℕ} 0 1 = cc in absurd (omega arith)
+    go false false p q h = impossible cc
 
 below-first : (a b : ℕ) (l m : List ℕ) → a < b → below (a ∷ l) (b ∷ m) ≡ true
 unfolding below
@@ -38,10 +39,10 @@ below-next a b l m e h = rw (le-ltb a b (omega arith), eq-eqb a b e) h
 
 pub below-trans : (l m n : List ℕ) → below l m ≡ true → below m n ≡ true → below l n ≡ true
 unfolding below
-below-trans [] [] n p q = let z : _≡_ {A = ℕ} 0 1 = cc in absurd (omega arith)
-below-trans l (b ∷ m) [] p q = let z : _≡_ {A = ℕ} 0 1 = cc in absurd (omega arith)
+below-trans [] [] n p q = impossible cc
+below-trans l (b ∷ m) [] p q = impossible cc
 below-trans [] (b ∷ m) (c ∷ n) p q = refl
-below-trans (a ∷ l) [] n p q = let z : _≡_ {A = ℕ} 0 1 = cc in absurd (omega arith)
+below-trans (a ∷ l) [] n p q = impossible cc
 below-trans (a ∷ l) (b ∷ m) (c ∷ n) p q =
     ⊎-elim
     (λ h. ⊎-elim (λ k. below-first a c l n (omega arith)) (λ k. below-first a c l n (omega (arith, k .0))) (below-cases b c m n q))
@@ -53,7 +54,7 @@ below-trans (a ∷ l) (b ∷ m) (c ∷ n) p q =
 
 pub below-self : (l : List ℕ) → below l l ≡ true → ⊥
 unfolding below
-below-self [] p = let z : _≡_ {A = ℕ} 0 1 = cc in omega arith
+below-self [] p = impossible cc
 below-self (a ∷ l) p = ⊎-elim (λ h. omega arith) (λ h. below-self l (h .1)) (below-cases a a l l p)
 
 -- each name stands after the one before all, and after each lower one
@@ -104,8 +105,8 @@ same-self (a ∷ l) = rw (eq-eqb a a refl) (same-self l)
 pub same-true : (l m : List ℕ) → same l m ≡ true → l ≡ m
 unfolding same
 same-true [] [] p = refl
-same-true [] (b ∷ m) p = let z : _≡_ {A = ℕ} 0 1 = cc in absurd (omega arith)
-same-true (a ∷ l) [] p = let z : _≡_ {A = ℕ} 0 1 = cc in absurd (omega arith)
+same-true [] (b ∷ m) p = impossible cc
+same-true (a ∷ l) [] p = impossible cc
 same-true (a ∷ l) (b ∷ m) p = go (eqb a b) refl p (same-true l m)
   where
     go : (t : Bool) → eqb a b ≡ t → cond t (same l m) false ≡ true → (same l m ≡ true → l ≡ m) → _≡_ {A = List ℕ} (a ∷ l) (b ∷ m)
@@ -113,7 +114,7 @@ same-true (a ∷ l) (b ∷ m) p = go (eqb a b) refl p (same-true l m)
         let q : a ≡ b = eqb-true a b e in
         let r : l ≡ m = f p in
         cc
-    go false e p f = let z : _≡_ {A = ℕ} 0 1 = cc in absurd (omega arith)
+    go false e p f = impossible cc
 
 same-false : (l m : List ℕ) → (l ≡ m → ⊥) → same l m ≡ false
 same-false l m h = go (same l m) refl

@@ -9,6 +9,7 @@ use lib.Dec.{leb, eqb}
 use lib.ListN.{length, getD, take, drop, length-drop}
 use lib.Seq.{drop-drop}
 use borrow.Author.Tests.{le-leb, eq-eqb, leb-true, eqb-true}
+use Rattle.rules.proofs.Impossible.{impossible}
 use Rattle.rules.specs.Limits.{mostPatterns}
 use Rattle.refusal.specs.declared.Refusal.the-variants.{Absent}
 use Rattle.body.specs.Bytes.{valueAt}
@@ -98,15 +99,13 @@ module _ (site fleet name names counts bodies names′ counts′ bodies′ : Lis
   site-lacks j h e =
       let f = found-in-site site fleet names counts bodies k (parts-accepted fleet names′ counts′ bodies′ k′) j h in
       let g = ap (findingOf site fleet) e in
-      let z : _≡_ {A = ℕ} 0 1 = cc in
-      omega arith
+      impossible cc
 
   fleet-lacks : Lacks names′ counts′ name
   fleet-lacks j h e =
       let f = found-in-fleet site fleet names counts bodies names′ counts′ bodies′ k k′ j h (λ i l q. site-lacks i l (q ∙ e)) in
       let g = ap (findingOf site fleet) e in
-      let z : _≡_ {A = ℕ} 0 1 = cc in
-      omega arith
+      impossible cc
 
 pub absent-from-both : AbsentFromBoth
 absent-from-both site fleet name names counts bodies names′ counts′ bodies′ k k′ = (

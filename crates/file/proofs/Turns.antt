@@ -8,8 +8,9 @@ use native.Mathlib.Nat.{sub-zero}
 use native.Mathlib.Numerals.{add-one}
 use native.Mathlib.Omega.{arith}
 use lib.ListN.{length, getD, take, drop, set, length-set, length-drop, drop-of-length-le, take-append-drop}
-use lib.Seq.{drop-cons, drop-drop, getD-drop, length-take-le, take-all, take-suc-set, drop-set-lt, append-snoc}
+use lib.Seq.{drop-cons, drop-drop, getD-drop, length-take-le, take-suc-set, drop-set-lt, append-snoc}
 use borrow.Author.Tests.{eq-eqb, ne-eqb}
+use Rattle.rules.proofs.Lists.{drop-part}
 use Rattle.rules.specs.Limits.{argumentBytes, mostPatterns}
 use Rattle.refusal.specs.declared.Refusal.the-variants.{Entry}
 use Rattle.refusal.specs.Table.{brokenAt}
@@ -148,10 +149,6 @@ module _ {counts bodies : List ℕ} {b at n end : ℕ} (k : AtBody counts bodies
     same = rw (turned, o) at (k .before .same);
   }
 
--- the rest of a list, as the code takes it
-pub rest-part : (l : List ℕ) (at : ℕ) → take (length l - at) (drop at l) ≡ drop at l
-rest-part l at = take-all (length l - at) (drop at l) (omega (arith, length-drop at l))
-
 -- i of the names and numbers of entries keep their rules; the last name stands between two places
 pub record Kept (names counts : List ℕ) (i from at : ℕ) : Type 0 where
   pub upto : i ≤ length counts
@@ -225,7 +222,7 @@ module _ {count : ℕ} {f : List ℕ} {i from to at offset : ℕ} (k : KeptConte
   unfolding brokenContent
   content-turn =
       let long : at + nameBytes - at ≡ nameBytes = omega arith in
-      rw (left-suc count i h, long, rest-part f at, getD-drop at f 10 0, drop-drop contentsBytes at f)
+      rw (left-suc count i h, long, drop-part f at, getD-drop at f 10 0, drop-drop contentsBytes at f)
 
   pub contents-here : contentKept (take (to - from) (drop from f)) (take (length f - at) (drop at f)) offset ≡ false
       → Refused (Entry i) ≡ onEntry (brokenContent [] f count (bodiesAt count) 0) Sound

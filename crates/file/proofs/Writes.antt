@@ -11,6 +11,7 @@ use lib.ListN.{length, getD, take, drop, set, length-append, length-take, length
 use lib.Seq.{take-length, drop-cons, drop-drop, length-take-le, take-all, take-at, drop-at, sets, sets-eq}
 use borrow.Author.Tests.{le-leb, lt-leb, leb-false}
 use borrow.Rule.Slice.PartMut.{midOf, putMid, same-len-mid, mid-len}
+use Rattle.rules.proofs.Impossible.{impossible}
 use Rattle.refusal.specs.declared.Refusal.{Refusal}
 use Rattle.refusal.specs.declared.Refusal.the-variants.{Room}
 use Rattle.body.specs.Bytes.{bytesOf}
@@ -172,12 +173,12 @@ module _ (names counts bodies old : List ℕ) where
 
 -- if the writer says that it wrote, its parts are accepted and the bytes are those of the file
 written-by : (c : FileCheck) (needed room n : ℕ) → Written n ≡ ifSound c (inRoom needed room) → (c ≡ Checks.Sound) × (needed ≡ n)
-written-by (Checks.Refused r) needed room n p = let z : _≡_ {A = ℕ} 0 1 = cc in absurd (omega arith)
+written-by (Checks.Refused r) needed room n p = impossible cc
 written-by Checks.Sound needed room n p = go (leb needed room) p
   where
     go : (t : Bool) → Written n ≡ cond t (Written needed) (Refused (Room needed)) → (Checks.Sound ≡ Checks.Sound) × (needed ≡ n)
     go true q = (refl, cc)
-    go false q = let z : _≡_ {A = ℕ} 0 1 = cc in absurd (omega arith)
+    go false q = impossible cc
 
 pub wrote-parts : (names counts bodies old new : List ℕ) (n : ℕ) → Wrote names counts bodies old new (Written n)
     → PartsOf (take n new) names counts bodies
@@ -192,14 +193,14 @@ pub refused-by : (c : FileCheck) (needed room : ℕ) (r : Refusal)
     → ifSound c (inRoom needed room) ≡ Refused r ↔ ((c ≡ Checks.Refused r) ⊎ ((c ≡ Checks.Sound) × (room < needed) × (r ≡ Room needed)))
 refused-by (Checks.Refused s) needed room r = (
   λ p. inl cc,
-  ⊎-elim (λ q. let e : s ≡ r = cc in ap Refused e) (λ q. let h = q .0 in let z : _≡_ {A = ℕ} 0 1 = cc in absurd (omega arith)),
+  ⊎-elim (λ q. let e : s ≡ r = cc in ap Refused e) (λ q. let h = q .0 in impossible cc),
 )
 refused-by Checks.Sound needed room r = (
   λ p. go (leb needed room) refl p,
-  ⊎-elim (λ q. let z : _≡_ {A = ℕ} 0 1 = cc in absurd (omega arith)) (λ q. rw (lt-leb needed room (q .1), q .2)),
+  ⊎-elim (λ q. impossible cc) (λ q. rw (lt-leb needed room (q .1), q .2)),
 )
   where
     go : (t : Bool) → leb needed room ≡ t → cond t (Written needed) (Refused (Room needed)) ≡ Refused r
         → (Checks.Sound ≡ Checks.Refused r) ⊎ ((Checks.Sound ≡ Checks.Sound) × (room < needed) × (r ≡ Room needed))
-    go true e p = let z : _≡_ {A = ℕ} 0 1 = cc in absurd (omega arith)
+    go true e p = impossible cc
     go false e p = inr (refl, leb-false needed room e, cc)

@@ -6,7 +6,8 @@ use mathlib.Core.Bool.{true}
 use mathlib.Core.List.{List, []}
 use lib.ListN.{length, getD, drop}
 use Rattle.rules.specs.Limits.{argumentBytes, mostEntries, mostPatterns}
-use Rattle.refusal.specs.declared.Refusal.the-variants.{Count, Entry, Size, Body}
+use Rattle.refusal.specs.declared.Refusal.the-variants.{Count, Entry, Size}
+use Rattle.refusal.specs.Table.{brokenAt}
 use Rattle.body.specs.declared.BodyCheck.the-variants as Bodies
 use Rattle.body.specs.Bytes.{valueAt}
 use Rattle.body.specs.Check.{checkOf as bodyCheck}
@@ -32,7 +33,7 @@ pub data Judged (Counted : Type 0) (Right : ℕ → Type 0) (counts bodies : Lis
   entry : {i : ℕ} → Counted → i < length counts → AllBelow i Right → (Right i → ⊥) → Judged Counted Right counts bodies (Refused (Entry i))
   size : Counted → AllBelow (length counts) Right → (Whole counts bodies → ⊥) → Judged Counted Right counts bodies (Refused Size)
   body : {b e : ℕ} → Counted → AllBelow (length counts) Right → Whole counts bodies → b < length counts → AllBelow b (BodyRight counts bodies)
-      → bodyCheck argumentBytes (bodyOf counts bodies b) ≡ Bodies.Refused (Body 0 e) → Judged Counted Right counts bodies (Refused (Body b e))
+      → bodyCheck argumentBytes (bodyOf counts bodies b) ≡ Bodies.Refused (brokenAt 0 e) → Judged Counted Right counts bodies (Refused (brokenAt b e))
   sound : Counted → AllBelow (length counts) Right → Whole counts bodies → AllBelow (length counts) (BodyRight counts bodies)
       → Judged Counted Right counts bodies Sound
 

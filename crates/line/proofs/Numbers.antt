@@ -5,6 +5,7 @@ use native.Mathlib.Omega.{arith}
 use mathlib.Core.List.{List, [], _∷_, _++_}
 use lib.Seq.{append-snoc}
 use borrow.Author.Tests.{lt-ltb, le-ltb, eq-eqb, ne-eqb}
+use Rattle.rules.proofs.Impossible.{impossible}
 use Rattle.text.specs.Render.{digitsIn}
 use Rattle.text.specs.Characters.{digitOf}
 use Rattle.text.proofs.Branches.{either-way, either-is}
@@ -78,14 +79,14 @@ grow-sound v (c ∷ s) n r p e =
 
 pub front-sound : (s : List ℕ) (n : ℕ) (r : List ℕ) → frontOf s ≡ number n r → s ≡ decimal n ++ r
 unfolding frontOf
-front-sound [] n r e = let z : _≡_ {A = ℕ} 0 1 = cc in absurd (omega arith)
+front-sound [] n r e = impossible cc
 front-sound (c ∷ s) n r e =
     either-way (digitOf c) 10
     (λ l. sym (first l)
     ∙ either-is (digitOf c) 0 (λ z. zero-alone z (sym (front-zero c s z) ∙ e))
     (λ z. grow-sound (digitOf c) s n r (omega arith) (sym (front-grow c s l (omega arith)) ∙ e)))
     (λ l. let q : none ≡ number n r = sym (front-other c s l) ∙ e in
-    let z : _≡_ {A = ℕ} 0 1 = cc in absurd (omega arith))
+    impossible cc)
   where
     first : digitOf c < 10 → decimal (digitOf c) ++ s ≡ c ∷ s
     first l = ap (λ (w : List ℕ). w ++ s) (decimal-one (digitOf c) l) ∙ ap (λ (x : ℕ). x ∷ s) (byte-digit c l)

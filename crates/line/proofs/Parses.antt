@@ -4,6 +4,7 @@ use Prim.Native.Nat.{ℕ, _<_}
 use native.Mathlib.Omega.{arith}
 use mathlib.Core.List.{List, [], _∷_, _++_}
 use borrow.Author.Tests.{eq-eqb, ne-eqb}
+use Rattle.rules.proofs.Impossible.{impossible}
 use Rattle.text.proofs.Branches.{either-is}
 use Rattle.line.specs.Lines.{decimal, lettersOf}
 use Rattle.line.specs.Answer.{LineOf}
@@ -34,7 +35,7 @@ line-parsed s t w e = at-front (frontOf s) refl e
     at-word n r q e =
         either-is (wordOf r) 0
         (λ z. let x : withWord n (wordOf r) ≡ malformed = simp (eq-eqb (wordOf r) 0 z) in
-        let y : _≡_ {A = ℕ} 0 1 = cc in absurd (omega arith))
+        impossible cc)
         (λ z. let x : withWord n (wordOf r) ≡ line n (wordOf r) = word-some n (wordOf r) (omega arith) in
         let a : n ≡ t = cc in
         let b : wordOf r ≡ w = cc in
@@ -42,18 +43,17 @@ line-parsed s t w e = at-front (frontOf s) refl e
         record { some = omega arith; fits = f .1; same = q ∙ ap₂ (λ (i : ℕ) (x : List ℕ). decimal i ++ (32 ∷ x)) a (f .0) })
 
     at-front : (f : Front) → frontOf s ≡ f → afterFront f ≡ line t w → LineOf s t w
-    at-front none q e = let z : _≡_ {A = ℕ} 0 1 = cc in absurd (omega arith)
-    at-front (number n []) q e = let z : _≡_ {A = ℕ} 0 1 = cc in absurd (omega arith)
+    at-front none q e = impossible cc
+    at-front (number n []) q e = impossible cc
     at-front (number n (c ∷ r)) q e =
         either-is c 32
         (λ z. at-word n r (front-sound s n (c ∷ r) q ∙ ap (λ (x : ℕ). decimal n ++ (x ∷ r)) z)
         (let x : afterFront (number n (c ∷ r)) ≡ withWord n (wordOf r) = simp (eq-eqb c 32 z) in sym x ∙ e))
         (λ z. let x : afterFront (number n (c ∷ r)) ≡ malformed = simp (ne-eqb c 32 z) in
-        let y : _≡_ {A = ℕ} 0 1 = cc in absurd (omega arith))
+        impossible cc)
 
 -- a malformed line is the line of no tick
 pub no-line : (s : List ℕ) → parse s ≡ malformed → (t w : ℕ) → LineOf s t w → ⊥
 no-line s e t w l =
     let x : parse s ≡ line t w = parse-line s t w l in
-    let z : _≡_ {A = ℕ} 0 1 = cc in
-    omega arith
+    impossible cc

@@ -3,11 +3,10 @@ use mathlib.Core.Path.{_≡_, refl, sym, ap, _∙_}
 use Prim.Native.Nat.{ℕ, _+_, _*_, _%_, _^_, _<_, _≤_, min}
 use native.Mathlib.Decide.{decLt}
 use native.Mathlib.Omega.{arith}
-use native.Mathlib.Numerals.{add-one}
-use mathlib.Core.List.{List, _∷_}
+use mathlib.Core.List.{List}
 use lib.ListN.{length, getD, drop, drop-of-length-le}
-use lib.Seq.{drop-cons}
 use borrow.Author.Tests.{eq-eqb, ne-eqb}
+use Rattle.rules.proofs.Lists.{drop-at}
 use Rattle.rules.specs.Decisions.{pick}
 use Rattle.rules.specs.Limits.{letters, ticks}
 use Rattle.text.specs.Characters.{letterOf, digitOf}
@@ -20,9 +19,6 @@ use Rattle.line.specs.Told.{IsNumber}
 use Rattle.line.proofs.Numbers.{grow-digit, grow-other, front-other, front-zero, front-grow}
 use Rattle.line.proofs.Letters.{word-more, word-low, word-other, word-fits, bit-shifted}
 use Rattle.line.proofs.Parses.{word-some, line-parsed}
-
-next-byte : (s : List ℕ) (i : ℕ) → i < length s → drop i s ≡ getD s i 0 ∷ drop (i + 1) s
-next-byte s i h = rw (add-one, drop-cons s i 0)
 
 -- ---- the number
 
@@ -41,12 +37,12 @@ module _ (s : List ℕ) where
 
   module _ (h : 0 < length s) (d : ℕ) (q : d ≡ digitOf (getD s 0 0)) where
     pub front-bad : 10 ≤ d → frontOf s ≡ none
-    front-bad l = ap frontOf (next-byte s 0 h) ∙ front-other (getD s 0 0) (drop 1 s) (omega arith)
+    front-bad l = ap frontOf (drop-at s 0 h) ∙ front-other (getD s 0 0) (drop 1 s) (omega arith)
 
     pub value-zero : d ≡ 0 → IsNumber s 1 0
     value-zero z = record {
       tick = 0;
-      front = ap frontOf (next-byte s 0 h) ∙ front-zero (getD s 0 0) (drop 1 s) (omega arith);
+      front = ap frontOf (drop-at s 0 h) ∙ front-zero (getD s 0 0) (drop 1 s) (omega arith);
       told = omega arith;
       inside = omega arith;
     }
@@ -58,7 +54,7 @@ module _ (s : List ℕ) where
       told = omega arith;
       inside = omega arith;
       reads =
-          ap frontOf (next-byte s 0 h) ∙ front-grow (getD s 0 0) (drop 1 s) (omega arith) (omega arith)
+          ap frontOf (drop-at s 0 h) ∙ front-grow (getD s 0 0) (drop 1 s) (omega arith) (omega arith)
           ∙ ap (λ (v : ℕ). grow v (drop 1 s)) (sym q);
     }
 
@@ -73,8 +69,8 @@ module _ (s : List ℕ) where
     module _ (h : end < length s) (d : ℕ) (q : d ≡ digitOf (getD s end 0)) where
       pub value-other : (v : ℕ) → v ≡ min value ticks → 10 ≤ d → IsNumber s end v
       value-other v c l =
-          going-value v c (ap (grow (g .tick)) (next-byte s end h) ∙ grow-other (getD s end 0) (drop (end + 1) s) (g .tick) (omega arith)
-          ∙ ap (number (g .tick)) (sym (next-byte s end h)))
+          going-value v c (ap (grow (g .tick)) (drop-at s end h) ∙ grow-other (getD s end 0) (drop (end + 1) s) (g .tick) (omega arith)
+          ∙ ap (number (g .tick)) (sym (drop-at s end h)))
 
       grows : (k : Dec (value < ticks)) → min (pick k (value * 10 + d) value) ticks ≡ min (g .tick * 10 + d) ticks
       grows (yes k) = omega (arith, g .told)
@@ -87,7 +83,7 @@ module _ (s : List ℕ) where
         told = ap (λ (v : ℕ). min v ticks) e ∙ grows (decLt value ticks);
         inside = omega arith;
         reads =
-            g .reads ∙ ap (grow (g .tick)) (next-byte s end h)
+            g .reads ∙ ap (grow (g .tick)) (drop-at s end h)
             ∙ grow-digit (getD s end 0) (drop (end + 1) s) (g .tick) (omega arith)
             ∙ ap (λ (x : ℕ). grow (g .tick * 10 + x) (drop (end + 1) s)) (sym q);
       }
@@ -111,11 +107,11 @@ module _ {s : List ℕ} {at w n i : ℕ} (g : LettersRead s at w n i) where
 
   module _ (h : i < length s) (k : ℕ) (q : k ≡ letterOf (getD s i 0)) where
     pub letters-low : k < n → 0 ≡ wordOf (drop at s)
-    letters-low l = sym (word-low (getD s i 0) (drop (i + 1) s) n w (omega arith)) ∙ ap (wordFrom n w) (sym (next-byte s i h)) ∙ g .reads
+    letters-low l = sym (word-low (getD s i 0) (drop (i + 1) s) n w (omega arith)) ∙ ap (wordFrom n w) (sym (drop-at s i h)) ∙ g .reads
 
     pub letters-other : n ≤ k → letters ≤ k → 0 ≡ wordOf (drop at s)
     letters-other l o =
-        sym (word-other (getD s i 0) (drop (i + 1) s) n w (omega arith) (omega arith)) ∙ ap (wordFrom n w) (sym (next-byte s i h)) ∙ g .reads
+        sym (word-other (getD s i 0) (drop (i + 1) s) n w (omega arith) (omega arith)) ∙ ap (wordFrom n w) (sym (drop-at s i h)) ∙ g .reads
 
     pub letters-more : n ≤ k → k < letters → LettersRead s at (w + 1 * 2 ^ k % 2 ^ letters) (k + 1) (i + 1)
     letters-more l o = record {
@@ -126,7 +122,7 @@ module _ {s : List ℕ} {at w n i : ℕ} (g : LettersRead s at w n i) where
           ap (λ (x : ℕ). wordFrom (k + 1) (w + x) (drop (i + 1) s)) (bit-shifted k o)
           ∙ ap (λ (x : ℕ). wordFrom (x + 1) (w + 2 ^ x) (drop (i + 1) s)) q
           ∙ sym (word-more (getD s i 0) (drop (i + 1) s) n w (omega arith) (omega arith))
-          ∙ ap (wordFrom n w) (sym (next-byte s i h)) ∙ g .reads;
+          ∙ ap (wordFrom n w) (sym (drop-at s i h)) ∙ g .reads;
     }
 
 -- ---- the line
@@ -143,13 +139,13 @@ module _ (s : List ℕ) where
 
     pub parsed-other : end < length s → (getD s end 0 ≡ 32 → ⊥) → parse s ≡ malformed
     unfolding parse
-    parsed-other h o = ap afterFront (i .front ∙ ap (number (i .tick)) (next-byte s end h)) ∙ simp (ne-eqb (getD s end 0) 32 o)
+    parsed-other h o = ap afterFront (i .front ∙ ap (number (i .tick)) (drop-at s end h)) ∙ simp (ne-eqb (getD s end 0) 32 o)
 
     module _ (h : end < length s) (sp : getD s end 0 ≡ 32) (w : ℕ) (q : w ≡ wordOf (drop (end + 1) s)) where
       parsed-word : parse s ≡ withWord (i .tick) w
       unfolding parse
       parsed-word =
-          ap afterFront (i .front ∙ ap (number (i .tick)) (next-byte s end h))
+          ap afterFront (i .front ∙ ap (number (i .tick)) (drop-at s end h))
           ∙ simp (eq-eqb (getD s end 0) 32 sp) (ap (withWord (i .tick)) (sym q))
 
       pub parsed-no-letter : w ≡ 0 → parse s ≡ malformed

@@ -1,6 +1,6 @@
 -- One entry, filled, holds the instances of its operator on whatever its operands' rows hold. Assumes nothing.
 use mathlib.Core.Path.{_≡_, sym, ap, _∙_, subst}
-use mathlib.Core.Logic.{_⊎_, inl, inr, ⊎-elim, _↔_, Iff·trans}
+use mathlib.Core.Logic.{inl, inr, ⊎-elim, _↔_, Iff·trans}
 use mathlib.Core.List.{List}
 use Prim.Native.Nat.{ℕ, _+_, _*_, _≤_, _<_}
 use native.Mathlib.Omega.{arith}

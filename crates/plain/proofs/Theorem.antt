@@ -8,6 +8,7 @@ use native.Mathlib.Decide.{decLt, ℕ-discrete}
 use native.Mathlib.Omega.{arith}
 use lib.ListN.{getD, length, length-append}
 use lib.Seq.{ext-getD, getD-at}
+use Rattle.rules.proofs.Impossible.{impossible}
 use Rattle.rules.specs.Bits.{bit, On, onesBelow}
 use Rattle.rules.specs.Limits.{argumentBytes}
 use Rattle.rules.specs.Lists.{In}
@@ -137,7 +138,7 @@ one-written r es old new new′ w w′ a a′ =
 -- a body that was evaluated is sound
 if-evaluated : (c : BodyCheck) (x : Evaluation) → ifSound c x ≡ Evaluated → c ≡ Checked.Sound
 if-evaluated Checked.Sound x p = refl
-if-evaluated (Checked.Refused r) x p = let z : _≡_ {A = ℕ} 0 1 = cc in absurd (omega arith)
+if-evaluated (Checked.Refused r) x p = impossible cc
 
 evaluated-sound : (b : List ℕ) (words room : ℕ) → Evaluated ≡ evaluationOf b words room → checkOf argumentBytes b ≡ Checked.Sound
 unfolding evaluationOf
@@ -153,8 +154,8 @@ one-answer b words old new new′ a a′ w u u′ h h′ = (same, slices a a′ 
     slices Evaluated Evaluated p h h′ =
         let f = sound-pattern argumentBytes b w (evaluated-sound b (length words) (length old) (h .answered)) in
         one-written (worded words) (parts (f .0)) old new new′ u u′ (h .rows (f .0) (f .1)) (h′ .rows (f .0) (f .1))
-    slices Evaluated (Refused r) p h h′ = let z : _≡_ {A = ℕ} 0 1 = cc in absurd (omega arith)
-    slices (Refused r) Evaluated p h h′ = let z : _≡_ {A = ℕ} 0 1 = cc in absurd (omega arith)
+    slices Evaluated (Refused r) p h h′ = impossible cc
+    slices (Refused r) Evaluated p h h′ = impossible cc
     slices (Refused r) (Refused r′) p h h′ = h .rows ∙ sym (h′ .rows)
 
 -- the last entry ends the whole pattern

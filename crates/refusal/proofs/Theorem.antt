@@ -1,7 +1,5 @@
 -- Each claim of specs/Claim, proved. Assumes nothing.
-use Prim.Native.Nat.{_<_, _^_}
 use native.Mathlib.Omega.{arith}
-use Rattle.refusal.specs.declared.Refusal.{Refusal}
 use Rattle.refusal.specs.declared.Refusal.the-variants.{Long, Syntax, Many, Count, Entry, Size, Body, Room, State, Range, Late, Record, Full, Line, Absent}
 use Rattle.refusal.specs.Table.{packedOf}
 use Rattle.refusal.specs.Claim.{Numbered, Unpacks}

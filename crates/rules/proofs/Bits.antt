@@ -13,6 +13,7 @@ use lib.Dec.{eqb}
 use mathlib.Core.Bool.{Bool, true, false}
 use borrow.Author.Tests.{eqb-true, eq-eqb}
 use lib.Count.{ones, leadingZeros, ones-step, leading-top}
+use Rattle.rules.proofs.Impossible.{impossible}
 use Rattle.rules.specs.Bits.{bit, On, onesBelow}
 
 half-lt : {n : ℕ} (k : ℕ) → n < 2 ^ suc k → n / 2 < 2 ^ k
@@ -186,7 +187,7 @@ unfolding bit
 tested n k = ((λ e. sym (and-mask (n / 2 ^ k) 1) ∙ eqb-true _ _ e), (λ h. eq-eqb _ _ (and-mask (n / 2 ^ k) 1 ∙ h)))
 
 pub never : {b : Bool} → b ≡ true → b ≡ false → ⊥
-never p q = let z : _≡_ {A = ℕ} 0 1 = cc in omega arith
+never p q = impossible cc
 
 pub tested-high : (n w k : ℕ) → n < 2 ^ w → w ≤ k → (false ≡ true) ↔ On n k
 tested-high n w k h l = ((λ e. absurd (never e refl)), (λ b. absurd (omega (arith, has-lt n w k h b))))

@@ -1,3 +1,4 @@
+pub mod Impossible
 pub mod Lists
 pub mod Decisions
 pub mod Bits

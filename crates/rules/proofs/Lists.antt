@@ -1,8 +1,12 @@
--- Laws on membership and on what holds of all of a list. Assumes nothing.
+-- Laws on membership, on what holds of all of a list, and on the rest of a list from a place on. Assumes nothing.
 use mathlib.Core.Path.{_≡_}
 use mathlib.Core.Logic.{inl, inr}
 use mathlib.Core.List.{List, [], _∷_, _++_}
-use Prim.Native.Nat.{ℕ}
+use Prim.Native.Nat.{ℕ, _+_, _-_, _<_}
+use native.Mathlib.Numerals.{add-one}
+use native.Mathlib.Omega.{arith}
+use lib.ListN.{length, take, drop, getD, length-drop}
+use lib.Seq.{drop-cons, take-all}
 use Rattle.rules.specs.Lists.{In, All}
 
 pub in-left : (a : ℕ) (l k : List ℕ) → In a l → In a (l ++ k)
@@ -30,3 +34,11 @@ in-two a b c f g (inr h) = in-one a c g h
 pub all-map {ℓ} : {A : Type ℓ} {P Q : A → Type 0} (l : List A) → ((a : A) → P a → Q a) → All P l → All Q l
 all-map [] f h = tt
 all-map (x ∷ l) f h = (f x (h .0), all-map l f (h .1))
+
+-- the rest of a list from a place on: the element there, and the rest after it
+pub drop-at : (l : List ℕ) (i : ℕ) → i < length l → drop i l ≡ getD l i 0 ∷ drop (i + 1) l
+drop-at l i h = rw (add-one i) (drop-cons l i 0 h)
+
+-- a slice lent from a place to its end
+pub drop-part : (l : List ℕ) (i : ℕ) → take (length l - i) (drop i l) ≡ drop i l
+drop-part l i = take-all (length l - i) (drop i l) (omega (arith, length-drop i l))

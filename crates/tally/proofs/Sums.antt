@@ -5,6 +5,7 @@ use mathlib.Core.List.{_∷_}
 use Prim.Native.Nat.{ℕ, _+_}
 use native.Mathlib.Omega.{arith}
 use lib.ListN.{length}
+use Rattle.rules.proofs.Impossible.{impossible}
 use Rattle.refusal.specs.declared.Refusal.the-variants.{Range, Full}
 use Rattle.tally.specs.declared.Tally.{Tally}
 use Rattle.tally.specs.declared.Adding.the-variants.{Added, Refused}
@@ -13,8 +14,8 @@ use Rattle.tally.specs.Claim.{span, none, one, Sums}
 
 -- what is added is the window counted
 picked : (a b : Bool) (t u : Tally) → cond a (Refused (Range 0)) (cond b (Refused Full) (Added t)) ≡ Added u → t ≡ u
-picked true b t u p = let z : _≡_ {A = ℕ} 0 1 = cc in absurd (omega arith)
-picked false true t u p = let z : _≡_ {A = ℕ} 0 1 = cc in absurd (omega arith)
+picked true b t u p = impossible cc
+picked false true t u p = impossible cc
 picked false false t u p = cc
 
 added-more : (t u : Tally) (start end : ℕ) → addedTo t start end ≡ Added u → more t start end ≡ u

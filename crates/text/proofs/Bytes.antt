@@ -5,6 +5,7 @@ use native.Mathlib.Omega.{arith}
 use mathlib.Core.List.{List, [], _∷_, _++_}
 use mathlib.Core.Bool.{Bool, true, false}
 use borrow.Author.Tests.{lt-ltb, le-ltb, le-leb, lt-leb, eq-eqb, ne-eqb}
+use Rattle.rules.proofs.Impossible.{impossible}
 use Rattle.rules.specs.declared.Op.{Op}
 use Rattle.rules.specs.declared.Op.the-variants.{Either, Both, Without, Chain}
 use Rattle.rules.specs.Limits.{letters}
@@ -107,4 +108,4 @@ grows-true v c =
     (λ a e. absurd (never (grows-other v c a) e))
   where
     never : {b : Bool} → b ≡ false → b ≡ true → ⊥
-    never p q = let z : _≡_ {A = ℕ} 0 1 = (cc) in omega arith
+    never p q = impossible cc

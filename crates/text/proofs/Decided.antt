@@ -7,6 +7,7 @@ use mathlib.Core.List.{List, [], _++_}
 use lib.Dec.{ltb}
 use lib.ListN.{length, drop}
 use borrow.Author.Tests.{lt-ltb, le-ltb}
+use Rattle.rules.proofs.Impossible.{impossible}
 use Rattle.rules.specs.Limits.{argumentBytes, mostEntries, mostText}
 use Rattle.rules.specs.Pattern.{Pattern, size}
 use Rattle.refusal.specs.declared.Refusal.{Refusal}
@@ -122,8 +123,7 @@ told b d d′ (Unprinted r) (text-room a, k) =
 no-refusal : {C : Type 0} (b : List ℕ) (e : Pattern) (q : Refusal) → BodyOf argumentBytes b e → checkOf argumentBytes b ≡ Unsound q → C
 no-refusal b e q h p =
     let s : checkOf argumentBytes b ≡ Sound = ap (checkOf argumentBytes) (h .same) ∙ encode-sound argumentBytes (omega arith) e (h .bodied) in
-    let z : _≡_ {A = ℕ} 0 1 = cc in
-    absurd (omega arith)
+    impossible cc
 
 pub one-printing : OnePrinting
 one-printing b d d₁ d₂ r₁ r₂ a₁ a₂ = go (told b d d₁ r₁ a₁) (told b d d₂ r₂ a₂)

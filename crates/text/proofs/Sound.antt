@@ -6,6 +6,7 @@ use native.Mathlib.Omega.{arith}
 use mathlib.Core.List.{List, [], _∷_, _++_, append-assoc, append-nil}
 use lib.ListN.{length, take, drop, length-append, length-drop}
 use lib.Seq.{take-append-seam, take-append-add, drop-append-seam}
+use Rattle.rules.proofs.Impossible.{impossible}
 use Rattle.rules.specs.Pattern.{Pattern, Proper}
 use Rattle.text.specs.Render.{numbers, render}
 use Rattle.text.specs.Grammar.{TextOf, Begins, Broken}
@@ -29,13 +30,13 @@ record Stop (σ : State) (s r : List ℕ) : Type 0 where
 
 ended-nil : (σ : State) (r : List ℕ) → ended σ ≡ stopped r → r ≡ []
 ended-nil (want K) r e = cc
-ended-nil (have x []) r e = let z : _≡_ {A = ℕ} 0 1 = cc in absurd (omega arith)
+ended-nil (have x []) r e = impossible cc
 ended-nil (have x (f ∷ K)) r e = cc
 ended-nil (limit x K) r e = cc
 ended-nil (number x v K) r e = cc
 
 nil-cons : (r : List ℕ) (b : ℕ) (t : List ℕ) → r ≡ [] → r ≡ b ∷ t → ⊥
-nil-cons r b t p q = let z : _≡_ {A = ℕ} 0 1 = cc in omega arith
+nil-cons r b t p q = impossible cc
 
 stop : (s : List ℕ) (σ : State) (r : List ℕ) → Fine σ → run σ s ≡ stopped r → Stop σ s r
 unfolding run
@@ -83,7 +84,7 @@ unfolding run
 no-move σ b t e = ap (λ (m : Move). follow m (λ υ. run υ t) (b ∷ t)) e
 
 whole-stopped : (o : Outcome) (e : Pattern) (r : List ℕ) → o ≡ whole e → o ≡ stopped r → ⊥
-whole-stopped o e r p q = let z : _≡_ {A = ℕ} 0 1 = cc in omega arith
+whole-stopped o e r p q = impossible cc
 
 -- a text that the machine stops in is broken there
 pub broken : (s : List ℕ) (place : ℕ) → place ≤ length s → run (want []) s ≡ stopped (drop place s) → Broken s place
@@ -116,13 +117,13 @@ broken s place h e = record {
 
 -- a text that the machine reads whole is the text of the pattern that it says
 ended-whole : (σ : State) (e : Pattern) → Fine σ → ended σ ≡ whole e → TextOf (sofar σ ++ []) e
-ended-whole (want K) e f q = let z : _≡_ {A = ℕ} 0 1 = cc in absurd (omega arith)
+ended-whole (want K) e f q = impossible cc
 ended-whole (have x []) e f q =
     let z : x ≡ e = cc in
     record { proper = subst (Proper numbers) z (f .0); same = append-nil (render x) ∙ ap render z }
-ended-whole (have x (g ∷ K)) e f q = let z : _≡_ {A = ℕ} 0 1 = cc in absurd (omega arith)
-ended-whole (limit x K) e f q = let z : _≡_ {A = ℕ} 0 1 = cc in absurd (omega arith)
-ended-whole (number x v K) e f q = let z : _≡_ {A = ℕ} 0 1 = cc in absurd (omega arith)
+ended-whole (have x (g ∷ K)) e f q = impossible cc
+ended-whole (limit x K) e f q = impossible cc
+ended-whole (number x v K) e f q = impossible cc
 
 sound : (s : List ℕ) (σ : State) (e : Pattern) → Fine σ → run σ s ≡ whole e → TextOf (sofar σ ++ s) e
 unfolding run

@@ -1,13 +1,12 @@
 -- How the machine of `specs/Machine.antt` moves along a text that is read by index. Assumes nothing.
 use mathlib.Core.Path.{_≡_, refl, sym, ap, _∙_, subst}
 use Prim.Native.Nat.{ℕ, _+_, _<_, _≤_}
-use native.Mathlib.Numerals.{add-one}
 use mathlib.Core.List.{List, [], _∷_}
 use mathlib.Core.Bool.{Bool, true, false, cond}
 use lib.Dec.{eqb}
 use lib.ListN.{length, getD, drop, drop-of-length-le}
-use lib.Seq.{drop-cons}
 use borrow.Author.Tests.{eq-eqb, ne-eqb}
+use Rattle.rules.proofs.Lists.{drop-at}
 use Rattle.rules.specs.declared.Op.{Op}
 use Rattle.rules.specs.Pattern.{Pattern, pair, within}
 use Rattle.text.specs.Machine.{Frame, State, Move, grows, step, ended, follow, run, shut}
@@ -17,9 +16,6 @@ use Rattle.text.specs.Machine.Outcome.{stopped}
 use Rattle.text.specs.Machine.Move.{none, to}
 use Rattle.text.proofs.Branches.{either-way, either-is}
 
-cons-at : (s : List ℕ) (i : ℕ) → i < length s → drop i s ≡ getD s i 0 ∷ drop (i + 1) s
-cons-at s i h = rw add-one (drop-cons s i 0 h)
-
 run-cons : (σ : State) (c : ℕ) (t l : List ℕ) → l ≡ c ∷ t → run σ l ≡ follow (step σ c) (λ τ. run τ t) l
 unfolding run
 run-cons σ c t l e = subst (λ (m : List ℕ). run σ m ≡ follow (step σ c) (λ τ. run τ t) m) (sym e) refl
@@ -27,11 +23,11 @@ run-cons σ c t l e = subst (λ (m : List ℕ). run σ m ≡ follow (step σ c) 
 module _ (s : List ℕ) (i : ℕ) where
   pub run-to : (σ τ : State) → i < length s → step σ (getD s i 0) ≡ to τ → run σ (drop i s) ≡ run τ (drop (i + 1) s)
   run-to σ τ h e =
-      run-cons σ _ _ _ (cons-at s i h) ∙ ap (λ (m : Move). follow m (λ τ. run τ (drop (i + 1) s)) (drop i s)) e
+      run-cons σ _ _ _ (drop-at s i h) ∙ ap (λ (m : Move). follow m (λ τ. run τ (drop (i + 1) s)) (drop i s)) e
 
   pub run-no : (σ : State) → i < length s → step σ (getD s i 0) ≡ none → run σ (drop i s) ≡ stopped (drop i s)
   run-no σ h e =
-      run-cons σ _ _ _ (cons-at s i h) ∙ ap (λ (m : Move). follow m (λ τ. run τ (drop (i + 1) s)) (drop i s)) e
+      run-cons σ _ _ _ (drop-at s i h) ∙ ap (λ (m : Move). follow m (λ τ. run τ (drop (i + 1) s)) (drop i s)) e
 
   pub run-end : (σ : State) → length s ≤ i → ended σ ≡ stopped [] → run σ (drop i s) ≡ stopped (drop i s)
   unfolding run
@@ -41,7 +37,7 @@ module _ (s : List ℕ) (i : ℕ) where
   shut-cons : (e : Pattern) (K : List Frame) → i < length s
       → shut e K (drop i s) ≡ cond (eqb (getD s i 0) 41) (run (have e K) (drop (i + 1) s)) (stopped (drop i s))
   unfolding shut
-  shut-cons e K h = go _ _ _ (cons-at s i h)
+  shut-cons e K h = go _ _ _ (drop-at s i h)
     where
       go : (l : List ℕ) (c : ℕ) (t : List ℕ) → l ≡ c ∷ t → shut e K l ≡ cond (eqb c 41) (run (have e K) t) (stopped l)
       go l c t q = subst (λ (m : List ℕ). shut e K m ≡ cond (eqb c 41) (run (have e K) t) (stopped m)) (sym q) refl
@@ -69,7 +65,7 @@ module _ (s : List ℕ) (i : ℕ) where
   pub number-shut : (x : Pattern) (v : ℕ) (K : List Frame) → i < length s → grows v (getD s i 0) ≡ false
       → run (number x v K) (drop i s) ≡ shut (within x v) K (drop i s)
   number-shut x v K h q =
-      run-cons (number x v K) _ _ _ (cons-at s i h)
+      run-cons (number x v K) _ _ _ (drop-at s i h)
       ∙ simp q (go (eqb (getD s i 0) 41))
       ∙ sym (shut-cons (within x v) K h)
     where

@@ -4,6 +4,7 @@ use Prim.Native.Nat.{ℕ, zero, suc, _+_, _-_, _<_, _≤_}
 use native.Mathlib.Omega.{arith}
 use mathlib.Core.List.{List, [], _∷_, _++_, append-assoc}
 use lib.ListN.{length, length-append}
+use Rattle.rules.proofs.Impossible.{impossible}
 use Rattle.rules.specs.declared.Op.{Op}
 use Rattle.rules.specs.Limits.{letters, argumentBytes}
 use Rattle.rules.specs.Pattern.{Pattern, event, pair, within, Proper}
@@ -22,7 +23,7 @@ module _ (f : ℕ → Entry) where
   first-part : (i n : ℕ) (es ss : List Entry) → entriesBy f i n ≡ es ++ ss → entriesBy f i (length es) ≡ es
   unfolding entriesBy
   first-part i n [] ss q = refl
-  first-part i zero (s ∷ es) ss q = let z : _≡_ {A = ℕ} 0 1 = cc in absurd (omega arith)
+  first-part i zero (s ∷ es) ss q = impossible cc
   first-part i (suc n) (s ∷ es) ss q =
       let a : f i ≡ s = cc in
       let b : entriesBy f (i + 1) n ≡ es ++ ss = cc in
@@ -30,9 +31,9 @@ module _ (f : ℕ → Entry) where
 
   last-entry : (i n : ℕ) (es : List Entry) (s : Entry) → entriesBy f i n ≡ es ++ (s ∷ []) → f (i + length es) ≡ s
   unfolding entriesBy
-  last-entry i zero [] s q = let z : _≡_ {A = ℕ} 0 1 = cc in absurd (omega arith)
+  last-entry i zero [] s q = impossible cc
   last-entry i (suc n) [] s q = let a : f i ≡ s = cc in ap f (omega arith) ∙ a
-  last-entry i zero (t ∷ es) s q = let z : _≡_ {A = ℕ} 0 1 = cc in absurd (omega arith)
+  last-entry i zero (t ∷ es) s q = impossible cc
   last-entry i (suc n) (t ∷ es) s q =
       let b : entriesBy f (i + 1) n ≡ es ++ (s ∷ []) = cc in
       ap f (omega arith) ∙ last-entry (i + 1) n es s b

@@ -11,6 +11,7 @@ use mathlib.Core.Bool.{true, false}
 use lib.IntN.{ℤ, pos, negsuc}
 use lib.Signed.{ltZ}
 use borrow.Author.Tests.{ltb-true}
+use Rattle.rules.proofs.Impossible.{impossible}
 use Rattle.io.specs.Counts.{clamped}
 use lib.ListN.{length, take, drop, length-append, length-take, length-drop, drop-of-length-le}
 use lib.Seq.{take-at, take-add, take-all}
@@ -141,4 +142,4 @@ module _ (got : ℤ) (fits : SFits w64 got) where
     where
       go : (z : ℤ) → ltZ z (pos 0) ≡ false → got ≡ z → n ≡ clamped z (length buffer) → ReadTaken p got buffer part part′ state state′ r
       go (pos k) h e q = let m : n - 0 ≡ min k (length buffer) = omega (arith, q) in some e (rw m at t)
-      go (negsuc k) h e q = let z : _≡_ {A = ℕ} 0 1 = cc in absurd (omega arith)
+      go (negsuc k) h e q = impossible cc

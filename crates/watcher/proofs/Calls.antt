@@ -7,6 +7,7 @@ use mathlib.Core.List.{List, [], _∷_, _++_}
 use native.Mathlib.Numerals.{add-one}
 use native.Mathlib.Omega.{arith}
 use lib.ListN.{getD}
+use Rattle.rules.proofs.Impossible.{impossible}
 use Rattle.rules.specs.Limits.{ticks}
 use Rattle.detector.specs.Step.{answer, next}
 use Rattle.refusal.specs.declared.Refusal.the-variants.{State, Range, Late}
@@ -51,7 +52,7 @@ walked-as-ticked s t w r q l =
 
 pub refused-form : (s : List ℕ) (t : ℕ) → t < ticks → formed s ≡ false → TickRefused s t (State 0)
 refused-form s t r q =
-    broken r (λ f. let e : formed s ≡ true = formed-exactly s .1 f in let z : _≡_ {A = ℕ} 0 1 = cc in omega arith) refl
+    broken r (λ f. let e : formed s ≡ true = formed-exactly s .1 f in impossible cc) refl
 
 pub refused-late : (s : List ℕ) (t : ℕ) → t < ticks → formed s ≡ true → t < getD s 1 0 → TickRefused s t (Late 0)
 refused-late s t r q l =

@@ -10,13 +10,14 @@ use lib.Dec.{eqb, ltb}
 use lib.ListN.{length, getD, drop}
 use lib.Seq.{getD-drop, drop-drop, drop-cons}
 use borrow.Author.Tests.{lt-ltb, eqb-true, eqb-false, ltb-true}
+use Rattle.body.proofs.Entries.{op-number}
 use Rattle.rules.specs.declared.Op.the-variants.{Either, Both, Without, Chain}
 use Rattle.rules.specs.Limits.{letters, argumentBytes}
 use Rattle.rules.specs.Lists.{All}
 use Rattle.rules.specs.Pattern.{Pattern, size, Proper}
 use Rattle.body.specs.declared.Entry.{Entry}
 use Rattle.body.specs.declared.Entry.the-variants.{Letter, Pair, Within, Wrong}
-use Rattle.body.specs.Entry.{opNumber, opOf, entryOf, entriesBy}
+use Rattle.body.specs.Entry.{opOf, entryOf, entriesBy}
 use Rattle.body.specs.Postfix.{postfix}
 use Rattle.body.specs.Machine.{Machine, step, run, eval}
 use Rattle.body.proofs.Entries.{Fits, entry-fits}
@@ -44,15 +45,6 @@ entry-word (Pair Without) h = refl
 entry-word (Pair Chain) h = refl
 entry-word (Within n) h = rw (split 5 n (omega arith) .0, split 5 n (omega arith) .1, lt-ltb n (256 ^ argumentBytes) h)
 entry-word Wrong h = absurd h
-
--- an op number from 1 to 4 is that of its operator
-op-number : (op : ℕ) → (op ≡ 0 → ⊥) → op < 5 → opNumber (opOf op) ≡ op
-op-number zero z h = absurd (z refl)
-op-number (suc zero) z h = refl
-op-number (suc (suc zero)) z h = refl
-op-number (suc (suc (suc zero))) z h = refl
-op-number (suc (suc (suc (suc zero)))) z h = refl
-op-number (suc (suc (suc (suc (suc n))))) z h = absurd (omega arith)
 
 -- a word is that of the entry read from it
 word-split : (op argument : ℕ) → Fitting (entryOf argumentBytes op argument) → wordOf (entryOf argumentBytes op argument) ≡ op + 256 * argument

@@ -7,6 +7,7 @@ use native.Mathlib.Decide.{decLe, decLt}
 use native.Mathlib.Numerals.{add-one}
 use native.Mathlib.Omega.{arith}
 use lib.ListN.{length, getD, drop}
+use Rattle.rules.proofs.Impossible.{impossible}
 use Rattle.rules.specs.Limits.{argumentBytes, ticks}
 use Rattle.rules.specs.Lists.{All}
 use Rattle.rules.specs.Pattern.{Pattern}
@@ -79,7 +80,7 @@ fed-agrees b e o h s s′ x ts ws old new (Refused q) v m r a i = absurd (not-re
     not-refused (faulty c l f p) =
         let n : f .next ≡ nextTick 0 h = sym (next-word f) ∙ watched-next b e o x in
         let k : firstFault 0 (f .next) ts ≡ Fed = rw n (rising-faultless ts ws 0 (nextTick 0 h) v r a) in
-        let z : _≡_ {A = ℕ} 0 1 = cc in omega arith
+        impossible cc
 
 -- the walk's answers and words
 fed-as-walked : (h : List Tick) {s l s′ : List ℕ} → AllTicked s h l s′ → (l ≡ answersFed h s) × (s′ ≡ wordsFed h s)
@@ -115,7 +116,7 @@ fed-refused i (short e l q) = omega (arith, i .room)
 fed-refused i (broken e l n q) = n (i .form)
 fed-refused {s} {ts} {ws} i (faulty e l f q) =
     let k : firstFault 0 (f .next) ts ≡ Fed = rw (next-word f) at (fed-faultless ts ws 0 e (i .taken)) in
-    let z : _≡_ {A = ℕ} 0 1 = cc in omega arith
+    impossible cc
 
 one-feed-refusal : {s ts ws old : List ℕ} {r r′ : Refusal} → FeedRefused s ts ws old r → FeedRefused s ts ws old r′ → r ≡ r′
 one-feed-refusal (uneven n q) (uneven n′ q′) = q ∙ sym q′

@@ -9,6 +9,8 @@ use native.Mathlib.Numerals.{add-one}
 use native.Mathlib.Omega.{arith}
 use lib.ListN.{length, getD, take, drop, set, length-set, take-append-drop, drop-of-length-le}
 use lib.Seq.{drop-cons, drop-set-lt, take-suc-set}
+use Rattle.rules.proofs.Lists.{drop-at}
+use Rattle.rules.proofs.Impossible.{impossible}
 use Rattle.rules.specs.Decisions.{pick}
 use Rattle.rules.specs.Limits.{ticks}
 use Rattle.rules.proofs.Decisions.{pick-yes, pick-no}
@@ -61,8 +63,8 @@ faultless i τ t ts q = go (decLe ticks t) (decLt t τ) q
   where
     go : (d : Dec (ticks ≤ t)) (e : Dec (t < τ)) → pick d (Refused (Range i)) (pick e (Refused (Late i)) (firstFault (i + 1) (t + 1) ts)) ≡ Fed
         → Faultless i τ t ts
-    go (yes h) e q = let z : _≡_ {A = ℕ} 0 1 = cc in absurd (omega arith)
-    go (no h) (yes l) q = let z : _≡_ {A = ℕ} 0 1 = cc in absurd (omega arith)
+    go (yes h) e q = impossible cc
+    go (no h) (yes l) q = impossible cc
     go (no h) (no l) q = record { range = omega arith; late = omega arith; rest = q }
 
 -- the first tick's fault, by a loop's tests
@@ -72,20 +74,17 @@ module _ (ts : List ℕ) (i τ : ℕ) where
   fault-end h = rw (drop-of-length-le ts h)
 
   module _ (h : i < length ts) where
-    here : drop i ts ≡ getD ts i 0 ∷ drop (i + 1) ts
-    here = rw (add-one i, drop-cons ts i 0 h)
-
     pub fault-range : ticks ≤ getD ts i 0 → firstFault i τ (drop i ts) ≡ Refused (Range i)
     unfolding firstFault
-    fault-range k = rw here (pick-yes (decLe ticks (getD ts i 0)) _ _ k)
+    fault-range k = rw (drop-at ts i h) (pick-yes (decLe ticks (getD ts i 0)) _ _ k)
 
     pub fault-late : getD ts i 0 < ticks → getD ts i 0 < τ → firstFault i τ (drop i ts) ≡ Refused (Late i)
     unfolding firstFault
-    fault-late k l = rw here (pick-no (decLe ticks (getD ts i 0)) _ _ (λ z. omega arith) ∙ pick-yes (decLt (getD ts i 0) τ) _ _ l)
+    fault-late k l = rw (drop-at ts i h) (pick-no (decLe ticks (getD ts i 0)) _ _ (λ z. omega arith) ∙ pick-yes (decLt (getD ts i 0) τ) _ _ l)
 
     pub fault-none : getD ts i 0 < ticks → τ ≤ getD ts i 0 → firstFault i τ (drop i ts) ≡ firstFault (i + 1) (getD ts i 0 + 1) (drop (i + 1) ts)
     unfolding firstFault
-    fault-none k l = rw here (pick-no (decLe ticks (getD ts i 0)) _ _ (λ z. omega arith) ∙ pick-no (decLt (getD ts i 0) τ) _ _ (λ z. omega arith))
+    fault-none k l = rw (drop-at ts i h) (pick-no (decLe ticks (getD ts i 0)) _ _ (λ z. omega arith) ∙ pick-no (decLt (getD ts i 0) τ) _ _ (λ z. omega arith))
 
 -- so all are taken
 pub all-ticked : (ts ws s : List ℕ) (i : ℕ) → length ts ≡ length ws → formed s ≡ true → firstFault i (getD s 1 0) ts ≡ Fed
@@ -137,7 +136,7 @@ module _ {s₀ ts ws old s new : List ℕ} {i : ℕ} (r : FeedReady s₀ ts ws o
 
   module _ (h : i < length ts) where
     first : Faultless i (getD s 1 0) (getD ts i 0) (drop (i + 1) ts)
-    first = faultless i (getD s 1 0) (getD ts i 0) (drop (i + 1) ts) (rw (here ts i 0 h) at (x .sound))
+    first = faultless i (getD s 1 0) (getD ts i 0) (drop (i + 1) ts) (rw (drop-at ts i h) at (x .sound))
 
     pairs : paired (drop i ts) (drop i ws) ≡ (getD ts i 0, getD ws i 0) ∷ paired (drop (i + 1) ts) (drop (i + 1) ws)
     unfolding paired
@@ -180,7 +179,7 @@ fed-all {s} {ts} {ws} {old} {s′} {new} r d = record {
 module _ (s ts ws old : List ℕ) (even : length ts ≡ length ws) (room : length ts ≤ length old) where
   pub fed-broken : formed s ≡ false → FeedRefused s ts ws old (State 0)
   fed-broken q =
-      broken even room (λ f. let e : formed s ≡ true = formed-exactly s .1 f in let z : _≡_ {A = ℕ} 0 1 = cc in omega arith) refl
+      broken even room (λ f. let e : formed s ≡ true = formed-exactly s .1 f in impossible cc) refl
 
   pub fed-faulty : formed s ≡ true → (r : Refusal) → firstFault 0 (getD s 1 0) ts ≡ Refused r → FeedRefused s ts ws old r
   fed-faulty q r e = let f : InForm s = formed-exactly s .0 q in faulty even room f (rw (next-word f) at e)

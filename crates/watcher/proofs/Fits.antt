@@ -8,6 +8,7 @@ use native.Mathlib.Omega.{arith}
 use lib.Dec.{ltb, leb, eqb}
 use lib.ListN.{length}
 use borrow.Author.Tests.{lt-ltb, le-leb, eq-eqb, ne-eqb, ltb-true, leb-true, eqb-true, eqb-false}
+use Rattle.rules.proofs.Decisions.{both-true}
 use Rattle.rules.specs.declared.Op.{Op}
 use Rattle.rules.specs.declared.Op.the-variants.{Either, Both, Without, Chain}
 use Rattle.rules.specs.Lists.{All}
@@ -20,14 +21,6 @@ use Rattle.cell.specs.Cell.{cellWords}
 use Rattle.cell.specs.Form.{pairFits, allZero, keptFits, cellFits}
 use Rattle.watcher.specs.State.{cells}
 use Rattle.watcher.proofs.Cells.{own, cells-ahead}
-
--- tests one after the other
-not-true : {A : Type 0} → false ≡ true → A
-not-true q = let z : _≡_ {A = ℕ} 0 1 = cc in absurd (omega arith)
-
-pub both-true : (t u : Bool) → cond t u false ≡ true → (t ≡ true) × (u ≡ true)
-both-true true u q = (refl, q)
-both-true false u q = not-true q
 
 -- a pair
 pair-sound : (τ a b : ℕ) → pairFits τ a b ≡ true → Fits τ (record { start = a; end = b })

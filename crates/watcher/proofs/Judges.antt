@@ -3,13 +3,16 @@
 use Prim.Native.Nat.{ℕ, _+_, _-_, _≤_, _<_, _^_}
 use mathlib.Core.Path.{_≡_, refl, sym, ap, ap₂, subst, _∙_}
 use mathlib.Core.Bool.{Bool, true, false, cond}
-use mathlib.Core.List.{List, [], _∷_, _++_, append-nil}
+use mathlib.Core.List.{List, [], _∷_, _++_}
 use mathlib.Core.Option.{Option, none, some}
 use native.Mathlib.Omega.{arith}
 use lib.Dec.{leb}
 use lib.ListN.{length, getD, take, drop, length-append, take-append-drop}
 use lib.Seq.{take-at, drop-at, length-take-le}
 use borrow.Author.Tests.{le-leb, leb-true}
+use Rattle.body.proofs.Bodies.{scan-whole}
+use Rattle.rules.proofs.Decisions.{both-true}
+use Rattle.rules.proofs.Impossible.{impossible}
 use Rattle.rules.specs.declared.Op.{Op}
 use Rattle.rules.specs.Limits.{argumentBytes, mostEntries, ticks}
 use Rattle.rules.specs.Lists.{All}
@@ -25,7 +28,7 @@ use Rattle.body.specs.Check.{scan}
 use Rattle.body.specs.Machine.{step, run, eval}
 use Rattle.body.proofs.Entries.{entries-fit}
 use Rattle.body.proofs.Bodies.{length-by}
-use Rattle.body.proofs.Trees.{size-pos, length-postfix, proper-fits, fits-proper, scan-postfix, scan-tree}
+use Rattle.body.proofs.Trees.{size-pos, length-postfix, proper-fits, fits-proper, scan-tree}
 use Rattle.cell.specs.Cell.{cellWords, possible}
 use Rattle.cell.specs.Form.{cellFits}
 use Rattle.watcher.specs.State.{entryWords, cells, stateOf, InForm}
@@ -34,7 +37,7 @@ use Rattle.watcher.specs.Claim.{FormedExactly}
 use Rattle.watcher.proofs.Entries.{Fitting, words-entries, read-fits, run-tree}
 use Rattle.watcher.proofs.States.{state-parts, count-word, next-word, entries-read, cells-from, state-long}
 use Rattle.watcher.proofs.Cells.{left, right, own, cells-ahead, form-left, form-right, length-own, possible-p}
-use Rattle.watcher.proofs.Fits.{both-true, Found, own-found, own-fits}
+use Rattle.watcher.proofs.Fits.{Found, own-found, own-fits}
 
 -- what the judge of one cell says
 record Taken (τ : ℕ) (op : Op) (y : ℕ) (ahead rest : List ℕ) : Type 0 where
@@ -60,8 +63,8 @@ cell-sound τ op y ahead rest q = go (leb n (length ahead)) (cellFits τ op (tak
           fits = b;
           same = sym (take-append-drop n ahead) ∙ ap (λ (r : List ℕ). take n ahead ++ r) e;
         }
-    go true false a b q = let z : _≡_ {A = ℕ} 0 1 = cc in absurd (omega arith)
-    go false u a b q = let z : _≡_ {A = ℕ} 0 1 = cc in absurd (omega arith)
+    go true false a b q = impossible cc
+    go false u a b q = impossible cc
 
 cell-complete : (τ : ℕ) (op : Op) (y : ℕ) (c rest : List ℕ) → length c ≡ cellWords op y → cellFits τ op c ≡ true
     → judgeCell τ op y (c ++ rest) ≡ some rest
@@ -103,7 +106,7 @@ run-none τ (s ∷ ss) st =
     ∙ run-none τ ss (step (judgeM τ) s st none .0)
 
 not-some : {A : Type 0} (l : List ℕ) → none ≡ some l → A
-not-some l q = let z : _≡_ {A = ℕ} 0 1 = cc in absurd (omega arith)
+not-some l q = impossible cc
 
 -- an operator's words: its operands' and its own
 pair-found : (τ : ℕ) (op : Op) (x y : Pattern) (ahead rest : List ℕ) (g h : Option (List ℕ))
@@ -158,7 +161,7 @@ pub record Judged (s : List ℕ) : Type 0 where
 
 none-of : (o : Option ℕ) → isNone o ≡ true → o ≡ none
 none-of none q = refl
-none-of (some i) q = let z : _≡_ {A = ℕ} 0 1 = cc in absurd (omega arith)
+none-of (some i) q = impossible cc
 
 pub formed-judged : (s : List ℕ) → formed s ≡ true → Judged s
 unfolding formed
@@ -196,7 +199,7 @@ judge-run τ es e ahead q =
     ∙ ap (λ (r : List ℕ × Option (List ℕ)). r .1) (run-tree (judgeM τ) e ahead)
 
 some-of : (o : Option (List ℕ)) → isSome o ≡ true → (l : List ℕ) × (o ≡ some l)
-some-of none q = let z : _≡_ {A = ℕ} 0 1 = cc in absurd (omega arith)
+some-of none q = impossible cc
 some-of (some l) q = (l, refl)
 
 two-words : (s : List ℕ) → 2 ≤ length s → s ≡ getD s 0 0 ∷ getD s 1 0 ∷ drop 2 s
@@ -237,10 +240,6 @@ judged-in-form s j =
           join s n τ es (drop (2 + n) s) e (found .memory) (end .0)
           (two-words s (omega (arith, j .long)) ∙ ap (λ (l : List ℕ). n ∷ τ ∷ l) words) count (tree .1) (found .same);
     }
-
-scan-whole : (e : Pattern) → scan (postfix e) 0 0 ≡ none
-unfolding scan
-scan-whole e = rw (append-nil (postfix e)) at (scan-postfix e [] 0 0)
 
 -- the words beyond the cells of a state in form
 pub in-form-cells : (s : List ℕ) (f : InForm s) → judged s ≡ some (f .beyond)

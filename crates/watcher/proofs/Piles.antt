@@ -3,43 +3,36 @@ use Prim.Native.Nat.{ℕ, _+_, _-_, _≤_, _<_}
 use mathlib.Core.Path.{_≡_, refl, subst}
 use mathlib.Core.Bool.{Bool, true, false, cond}
 use mathlib.Core.List.{List, [], _∷_}
-use mathlib.Core.Option.{Option, none, some}
+use mathlib.Core.Option.{none, some}
 use native.Mathlib.Omega.{arith}
 use lib.Dec.{leb, eqb}
 use lib.ListN.{length}
 use borrow.Author.Tests.{eqb-true}
+use Rattle.rules.proofs.Impossible.{impossible}
 use Rattle.rules.specs.declared.Op.{Op}
 use Rattle.rules.specs.declared.Op.the-variants.{Either, Both, Without, Chain}
 use Rattle.rules.specs.Limits.{mostEntries}
 use Rattle.body.specs.declared.Entry.{Entry}
 use Rattle.body.specs.declared.Entry.the-variants.{Letter, Pair, Within, Wrong}
-use Rattle.body.specs.declared.Depth.the-variants.{Lacks, To}
 use Rattle.body.specs.Entry.{entriesBy}
-use Rattle.body.specs.Check.{onDepth, depthOf, scan}
-use Rattle.body.proofs.Walk.{Rest, rest-letter, rest-pair, rest-within, rest-wrong}
+use Rattle.body.specs.Check.{depthOf, scan}
+use Rattle.body.proofs.Walk.{cond-rest, Rest, rest-letter, rest-pair, rest-within, rest-wrong}
 use Rattle.body.proofs.Bodies.{length-by}
 use Rattle.cell.specs.Cell.{possible}
 
--- with d trees before the last n entries, d is at most n + 1
-not-none : {A : Type 0} (i : ℕ) → _≡_ {A = Option ℕ} (some i) none → A
-not-none i q = let z : _≡_ {A = ℕ} 0 1 = cc in absurd (omega arith)
-
 one-left : (t : Bool) (i : ℕ) → cond t none (some i) ≡ none → t ≡ true
 one-left true i q = refl
-one-left false i q = not-none i q
+one-left false i q = impossible cc
 
-finds : (t : Bool) (e i : ℕ) (go : ℕ → Option ℕ) → onDepth (cond t (To e) Lacks) (some i) go ≡ none → (t ≡ true) × (go e ≡ none)
-finds true e i go q = (refl, q)
-finds false e i go q = not-none i q
-
+-- with d trees before the last entries, d is at most one more than these
 scan-depth : (ss : List Entry) (i d : ℕ) → scan ss i d ≡ none → d ≤ length ss + 1
 unfolding scan depthOf
 scan-depth [] i d q = omega (arith, eqb-true d 1 (one-left (eqb d 1) i q))
 scan-depth (Letter n ∷ ss) i d q = omega (arith, scan-depth ss (i + 1) (d + 1) q)
 scan-depth (Pair op ∷ ss) i d q =
-    omega (arith, scan-depth ss (i + 1) (d - 1) (finds (leb 2 d) (d - 1) i (λ e. scan ss (i + 1) e) q .1))
-scan-depth (Within n ∷ ss) i d q = omega (arith, scan-depth ss (i + 1) d (finds (leb 1 d) d i (λ e. scan ss (i + 1) e) q .1))
-scan-depth (Wrong ∷ ss) i d q = not-none i q
+    omega (arith, scan-depth ss (i + 1) (d - 1) (cond-rest (leb 2 d) (d - 1) i (λ e. scan ss (i + 1) e) q .1))
+scan-depth (Within n ∷ ss) i d q = omega (arith, scan-depth ss (i + 1) d (cond-rest (leb 1 d) d i (λ e. scan ss (i + 1) e) q .1))
+scan-depth (Wrong ∷ ss) i d q = impossible cc
 
 pub rest-depth : (f : ℕ → Entry) (n i d : ℕ) → Rest f n i d → d ≤ n - i + 1
 rest-depth f n i d r = rw (length-by f i (n - i)) at (scan-depth (entriesBy f i (n - i)) i d r)

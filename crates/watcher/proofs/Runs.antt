@@ -6,8 +6,8 @@ use mathlib.Core.List.{List, [], _∷_, _++_, append-assoc, append-nil}
 use native.Mathlib.Nat.{sub-zero}
 use native.Mathlib.Omega.{arith}
 use lib.ListN.{length, getD, drop, length-append}
+use Rattle.detector.proofs.Form.{p-size}
 use Rattle.rules.specs.declared.Op.{Op}
-use Rattle.rules.specs.declared.Op.the-variants.{Either, Both, Without, Chain}
 use Rattle.rules.specs.Limits.{letters, argumentBytes}
 use Rattle.rules.specs.Lists.{All}
 use Rattle.rules.specs.Pattern.{Pattern, event, pair, within, size, Proper}
@@ -65,16 +65,6 @@ Runs t w i (s ∷ ss) st g =
 runs-stands : (t w i : ℕ) (ss : List Entry) (st : List Value) (g : Cells) → Runs t w i ss st g → Stands t i (length ss) st
 runs-stands t w i [] st g r = r
 runs-stands t w i (s ∷ ss) st g r = r .0
-
--- a tree has fewer possible starts than entries
-p-size : (e : Pattern) → p e + 1 ≤ size e
-unfolding p size
-p-size (event n) = omega arith
-p-size (pair Either x y) = omega (arith, p-size x, p-size y)
-p-size (pair Both x y) = omega (arith, p-size x, p-size y)
-p-size (pair Without x y) = omega (arith, p-size x, p-size y)
-p-size (pair Chain x y) = omega (arith, p-size x, p-size y)
-p-size (within x n) = omega (arith, p-size x)
 
 module _ (t w τ : ℕ) (k : τ ≤ t) where
   -- an operator's turn, after its operands

@@ -1,5 +1,5 @@
 -- A sound file holds patterns; and a walk over its contents and bodies, a pattern at a time. Assumes nothing.
-use Prim.Native.Nat.{ℕ, zero, suc, _+_, _-_, _*_, _≤_, _<_}
+use Prim.Native.Nat.{ℕ, suc, _+_, _-_, _*_, _≤_, _<_}
 use mathlib.Core.Path.{_≡_, refl, sym, ap, ap₂, _∙_}
 use mathlib.Core.List.{List, [], _∷_, _++_}
 use mathlib.Core.Option.{none}
@@ -7,6 +7,8 @@ use native.Mathlib.Nat.{sub-zero}
 use native.Mathlib.Omega.{arith}
 use lib.ListN.{length, getD, take, drop, length-append, length-drop, take-append-drop}
 use lib.Seq.{drop-drop, getD-drop, take-at, drop-at, length-take-le}
+use Rattle.body.proofs.Bytes.{bytes-take, bytes-drop}
+use Rattle.rules.proofs.Impossible.{impossible}
 use Rattle.rules.specs.Limits.{argumentBytes, mostPatterns}
 use Rattle.rules.specs.Lists.{All}
 use Rattle.rules.specs.Pattern.{Pattern, size}
@@ -21,15 +23,6 @@ use Rattle.file.proofs.Checks.{parts-sound, RestSound, rest-sound, check-count,
 use Rattle.file.proofs.Files.{accepted-parts, parts-read, written-sound}
 use Rattle.file.proofs.Found.{bodies-first, body-valid}
 use Rattle.watcher.specs.SetFile.{sizes, bodiesOf, Holds}
-
-bytes-take : (n : ℕ) (l : List ℕ) → Bytes l → Bytes (take n l)
-bytes-take zero l w k = omega arith
-bytes-take (suc n) [] w k = w k
-bytes-take (suc n) (x ∷ l) w zero = w 0
-bytes-take (suc n) (x ∷ l) w (suc k) = bytes-take n l (λ j. w (suc j)) k
-
-bytes-drop : (n : ℕ) (l : List ℕ) → Bytes l → Bytes (drop n l)
-bytes-drop n l w k = rw (getD-drop n l k 0) (w (n + k))
 
 no-words : (l : List ℕ) → length l ≡ 0 → l ≡ []
 no-words [] h = refl
@@ -139,7 +132,7 @@ module _ {f : List ℕ} {count i at : ℕ} {rest : List Pattern} (x : Ahead f co
 
       go : (es : List Pattern) → rest ≡ es → countsIn (drop (1 + contentsBytes * i) f) (suc (count - (i + 1))) ≡ sizes es → drop at f ≡ bodiesOf es
           → All (Bodied argumentBytes) es → Next f count i at rest n
-      go [] q u v w = let z : _≡_ {A = ℕ} 0 1 = cc in absurd (omega arith)
+      go [] q u v w = impossible cc
       go (e ∷ es) q u v w =
           let d : List ℕ = drop (1 + contentsBytes * i) f in
           let a : getD d 10 0 ≡ size e = cc in

@@ -1,13 +1,14 @@
 -- The judge of a set, a turn at a time: the states so far are in form, their ends are kept, and so is the lowest late one. Assumes nothing.
-use Prim.Native.Nat.{ℕ, _+_, _-_, _≤_, _<_}
+use Prim.Native.Nat.{ℕ, _+_, _≤_, _<_}
 use mathlib.Core.Path.{_≡_, refl, sym, subst, _∙_}
 use mathlib.Core.Bool.{true}
 use mathlib.Core.List.{List}
 use native.Mathlib.Decide.{decLt}
 use native.Mathlib.Numerals.{add-one}
 use native.Mathlib.Omega.{arith}
-use lib.ListN.{length, getD, take, drop, set, length-set, length-drop}
-use lib.Seq.{drop-drop, getD-set-same, getD-set-other, getD-drop, take-all}
+use lib.ListN.{length, getD, drop, set, length-set, length-drop}
+use lib.Seq.{drop-drop, getD-set-same, getD-set-other, getD-drop}
+use Rattle.rules.proofs.Impossible.{impossible}
 use Rattle.rules.specs.Limits.{mostPatterns, ticks}
 use Rattle.rules.proofs.Decisions.{pick-yes, pick-no}
 use Rattle.refusal.specs.declared.Refusal.the-variants.{State, Late}
@@ -80,7 +81,7 @@ module _ {n : ℕ} {s : List ℕ} {t : ℕ} {ends : List ℕ} {i at late : ℕ} 
     pub set-judging-broken : extent (drop at s) ≤ 0 → SetFault n s t (State i)
     set-judging-broken e =
         broken i (drop at s) h (x .past)
-        (λ f. let a = extent-broken (drop at s) e in let b = formed-exactly (drop at s) .1 f in let z : _≡_ {A = ℕ} 0 1 = cc in omega arith) refl
+        (λ f. let a = extent-broken (drop at s) e in let b = formed-exactly (drop at s) .1 f in impossible cc) refl
 
     module _ (few : n ≤ mostPatterns) (k : 0 < extent (drop at s)) where
       q : formed (drop at s) ≡ true
@@ -155,7 +156,3 @@ module _ {n : ℕ} {s : List ℕ} {t : ℕ} {ends : List ℕ} {i at late : ℕ} 
           end = each (λ (k m : ℕ). m ≡ k + extent (drop k s)) (x .end) e;
           lates = lates-more late′ d;
         }
-
--- a slice from a place on
-pub all-from : (s : List ℕ) (at : ℕ) → take (length s - at) (drop at s) ≡ drop at s
-all-from s at = take-all (length s - at) (drop at s) (omega (arith, length-drop at s))

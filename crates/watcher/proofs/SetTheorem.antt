@@ -5,6 +5,7 @@ use mathlib.Core.List.{List, [], _∷_, _++_}
 use native.Mathlib.Omega.{arith}
 use lib.ListN.{length, take, drop}
 use lib.Seq.{take-at, drop-at}
+use Rattle.rules.proofs.Impossible.{impossible}
 use Rattle.rules.specs.Limits.{argumentBytes}
 use Rattle.rules.specs.Lists.{All}
 use Rattle.rules.specs.Pattern.{Pattern, size}
@@ -34,8 +35,8 @@ same-patterns : (es es′ : List Pattern) → All (Bodied argumentBytes) es → 
     → sizes es ≡ sizes es′ → bodiesOf es ≡ bodiesOf es′ → es ≡ es′
 unfolding sizes bodiesOf
 same-patterns [] [] b b′ p q = refl
-same-patterns [] (e′ ∷ es′) b b′ p q = let z : _≡_ {A = ℕ} 0 1 = cc in absurd (omega arith)
-same-patterns (e ∷ es) [] b b′ p q = let z : _≡_ {A = ℕ} 0 1 = cc in absurd (omega arith)
+same-patterns [] (e′ ∷ es′) b b′ p q = impossible cc
+same-patterns (e ∷ es) [] b b′ p q = impossible cc
 same-patterns (e ∷ es) (e′ ∷ es′) b b′ p q =
     let c : List ℕ = encode argumentBytes e in
     let c′ : List ℕ = encode argumentBytes e′ in
@@ -57,7 +58,7 @@ one-holds {f} {es} {es′} h h′ =
 
 -- a file that holds patterns is not refused
 holds-refused : {f : List ℕ} {es : List Pattern} {r : Refusal} → Holds f es → checkOf f ≡ Checked.Refused r → ⊥
-holds-refused {f} {es} h q = let k = holds-sound f es h in let z : _≡_ {A = ℕ} 0 1 = cc in omega arith
+holds-refused {f} {es} h q = let k = holds-sound f es h in impossible cc
 
 length-sizes : (es : List Pattern) → length (sizes es) ≡ length es
 unfolding sizes

@@ -4,6 +4,7 @@ use mathlib.Core.Path.{_≡_, refl, sym, ap, _∙_}
 use mathlib.Core.List.{List, _++_}
 use native.Mathlib.Omega.{arith}
 use lib.ListN.{drop}
+use Rattle.rules.proofs.Impossible.{impossible}
 use Rattle.rules.specs.Limits.{argumentBytes}
 use Rattle.rules.specs.Pattern.{Pattern}
 use Rattle.rules.specs.History.{Tick}
@@ -78,7 +79,7 @@ same-pattern {b} {e} {e′} w w′ = one-pattern argumentBytes (omega arith) b e
 body-sound : {b : List ℕ} {e : Pattern} {r : Refusal} → BodyOf argumentBytes b e → checkOf argumentBytes b ≡ Checked.Refused r → ⊥
 body-sound {b} {e} {r} w q =
     let k : checkOf argumentBytes b ≡ Checked.Sound = ap (checkOf argumentBytes) (w .same) ∙ encode-sound argumentBytes (omega arith) e (w .bodied) in
-    let z : _≡_ {A = ℕ} 0 1 = cc in omega arith
+    impossible cc
 
 -- opening is not both done and refused, and is refused in one way only
 opened-refused : {b old new : List ℕ} {r : Refusal} → IsOpened b old new → OpenRefused b old r → ⊥

@@ -3,12 +3,12 @@ use Prim.Native.Nat.{ℕ, zero, suc, _+_, _-_, _<_, _≤_}
 use mathlib.Core.Path.{_≡_, refl, ap, _∙_}
 use mathlib.Core.Bool.{Bool, true, false, cond}
 use mathlib.Core.List.{List, [], _∷_, _++_, append-assoc, append-nil}
-use native.Mathlib.Numerals.{add-one}
 use native.Mathlib.Omega.{arith}
 use lib.Dec.{eqb}
 use lib.ListN.{length, getD, take, drop, length-take, drop-of-length-le}
-use lib.Seq.{drop-cons, take-all}
+use lib.Seq.{take-all}
 use borrow.Author.Tests.{eq-eqb, ne-eqb, eqb-true, eqb-false}
+use Rattle.rules.proofs.Lists.{drop-at}
 use Rattle.line.specs.Lines.{mostWritten}
 use Rattle.watching.specs.declared.Run.{Run}
 use Rattle.watching.specs.Answer.{LineTaken}
@@ -23,16 +23,13 @@ unfolding lineLength
 ends-all input at h = rw (drop-of-length-le input h)
 
 module _ (input : List ℕ) (at : ℕ) (h : at < length input) where
-  here : drop at input ≡ getD input at 0 ∷ drop (at + 1) input
-  here = rw (add-one at, drop-cons input at 0 h)
-
   pub ends-here : getD input at 0 ≡ 10 → lineLength (drop at input) ≡ 0
   unfolding lineLength
-  ends-here e = rw here (simp (eq-eqb (getD input at 0) 10 e))
+  ends-here e = rw (drop-at input at h) (simp (eq-eqb (getD input at 0) 10 e))
 
   pub ends-later : (getD input at 0 ≡ 10 → ⊥) → lineLength (drop at input) ≡ suc (lineLength (drop (at + 1) input))
   unfolding lineLength
-  ends-later n = rw here (simp (ne-eqb (getD input at 0) 10 n))
+  ends-later n = rw (drop-at input at h) (simp (ne-eqb (getD input at 0) 10 n))
 
 -- ---- bytes held
 

@@ -1,6 +1,7 @@
 -- 4,096 words are enough: each of at most 31 pairs has a cell of at most 122 words. Assumes nothing.
 use Prim.Native.Nat.{ℕ, _+_, _*_, _≤_}
 use native.Mathlib.Omega.{arith}
+use Rattle.detector.proofs.Form.{p-size}
 use Rattle.rules.specs.declared.Op.{Op}
 use Rattle.rules.specs.declared.Op.the-variants.{Either, Both, Without, Chain}
 use Rattle.rules.specs.Limits.{mostEntries}
@@ -9,16 +10,6 @@ use Rattle.detector.specs.Possible.{p}
 use Rattle.cell.specs.Cell.{cellWords}
 use Rattle.watcher.specs.State.{cellRoom}
 use Rattle.watching.specs.Claim.{RoomEnough}
-
--- a pattern has fewer possible starts than entries
-possible-few : (e : Pattern) → p e + 1 ≤ size e
-unfolding p size
-possible-few (event n) = omega arith
-possible-few (pair Either x y) = omega (arith, possible-few x, possible-few y)
-possible-few (pair Both x y) = omega (arith, possible-few x, possible-few y)
-possible-few (pair Without x y) = omega (arith, possible-few x, possible-few y)
-possible-few (pair Chain x y) = omega (arith, possible-few x, possible-few y)
-possible-few (within x n) = omega (arith, possible-few x)
 
 words-few : (op : Op) (y : ℕ) → y ≤ 60 → cellWords op y ≤ 122
 unfolding cellWords
@@ -31,8 +22,8 @@ cells-few : (e : Pattern) → size e ≤ mostEntries → 2 * cellRoom e + 122 �
 unfolding cellRoom size
 cells-few (event n) h = omega arith
 cells-few (pair op x y) h =
-    let a = possible-few x in
-    let b = possible-few y in
+    let a = p-size x in
+    let b = p-size y in
     omega (arith, cells-few x (omega arith), cells-few y (omega arith), words-few op (p y) (omega arith))
 cells-few (within x n) h = omega (arith, cells-few x (omega arith))
 

@@ -1,10 +1,11 @@
 -- A sound input is not refused: its text is read and the state opened, each tick is allowed, and the tally has room for all windows of one run.
 -- Assumes nothing.
-use Prim.Native.Nat.{ℕ, suc, _+_, _-_, _*_, _^_, _≤_, _<_}
-use mathlib.Core.Path.{_≡_, refl, sym, ap, _∙_}
-use mathlib.Core.List.{List, [], _∷_, _++_}
+use Prim.Native.Nat.{ℕ, suc, _-_, _*_, _^_, _≤_, _<_}
+use mathlib.Core.Path.{_≡_, refl, ap}
+use mathlib.Core.List.{List, _++_}
 use native.Mathlib.Omega.{arith}
 use lib.ListN.{length, take, drop}
+use Rattle.rules.proofs.Impossible.{impossible}
 use Rattle.rules.specs.Limits.{argumentBytes, ticks}
 use Rattle.rules.specs.Pattern.{Pattern}
 use Rattle.rules.specs.History.{Tick, Rising, nextTick}
@@ -14,12 +15,10 @@ use Rattle.refusal.specs.declared.Refusal.{Refusal}
 use Rattle.body.specs.Claim.{BodyOf}
 use Rattle.body.proofs.Bodies.{length-encode}
 use Rattle.text.specs.declared.Reading.the-variants as Reads
-use Rattle.text.specs.Answer.{IsRead, ReadingOf}
 use Rattle.text.proofs.Claims.{one-pattern, accepted-exactly}
 use Rattle.watcher.specs.declared.Opening.the-variants as Opens
 use Rattle.watcher.specs.declared.Ticking.the-variants as Ticks
 use Rattle.watcher.specs.State.{stateOf, roomOf}
-use Rattle.watcher.specs.Answer.{OpenAnswers}
 use Rattle.watcher.specs.Claim.{Watched, opened, window as windowed, nothing as unmoved}
 use Rattle.watcher.proofs.Theorem.{agrees, one-opening}
 use Rattle.tally.specs.declared.Tally.{Tally}
@@ -53,13 +52,13 @@ not-unbegun {p} {s} {r} x h (no-text {body} a) =
     let e = accepted-exactly p noBody body (Reads.Refused r) a .1
     (x .pattern, record { text = x .text; short = x .short; few = x .few; room = omega (arith, x .few) }) in
     let q = e .1 in
-    let z : _≡_ {A = ℕ} 0 1 = cc in omega arith
+    impossible cc
 not-unbegun {p} {s} {r} x h (unopened {body} {bytes} a o) =
     let e = a .some .tree in
     let same = ap roomOf (one-pattern p e (x .pattern) (a .some .text) (x .text)) in
     let q = one-opening (take bytes body) s (stateOf e 0 (blank e) ++ drop (roomOf e) s) s Opens.Opened (Opens.Refused r)
     (record { pattern = e; body = read-body a; room = omega arith; words = refl }) o .0 in
-    let z : _≡_ {A = ℕ} 0 1 = cc in omega arith
+    impossible cc
 
 -- ---- the tally
 
@@ -85,7 +84,7 @@ module _ (run : Run) (τ start t : ℕ) (f : Few run τ) (late : τ ≤ t) (rang
   never-full : {r : Refusal} → start ≤ t → addedTo (tallyOf run) start t ≡ Adds.Refused r → ⊥
   never-full h e =
       let k = fits h in
-      let z : _≡_ {A = ℕ} 0 1 = cc in omega arith
+      impossible cc
 
 -- ---- the other lines
 
@@ -94,7 +93,7 @@ module _ (b : List ℕ) (e : Pattern) (body : BodyOf argumentBytes b e) where
   not-refused : {h : List Tick} {s l : List ℕ} {t w : ℕ} {r : Refusal} → Watched b h s → IsTick l t w → nextTick 0 h ≤ t → StepRefused l s r → ⊥
   not-refused {l = l} {t = t} {w = w} {r = r} x i late (no-tick y) =
       let q = one-reading l (Lines.Tick t w) (Lines.Refused r) i y in
-      let z : _≡_ {A = ℕ} 0 1 = cc in omega arith
+      impossible cc
   not-refused {h} {s} {l} {t} {w} {r} x i late (unticked {t = t′} y) =
       let q = one-tick l t w t′ (y .events) (i .line) (y .read .line) in
       agrees b e body h s s x t′ (y .events) (Ticks.Refused r) (omega (arith, q .0)) (y .read .range) (y .ticked) .1

@@ -8,6 +8,7 @@ use lib.ListN.{length, getD, take, drop, length-drop, drop-of-length-le}
 use lib.Seq.{take-suc, drop-cons}
 use borrow.Author.Tests.{le-ltb, lt-leb}
 use borrow.Rule.Slice.PartMut.{midOf, putMid}
+use Rattle.rules.proofs.Impossible.{impossible}
 use Rattle.rules.specs.Limits.{ticks}
 use Rattle.tally.specs.declared.Tally.{Tally}
 use Rattle.tally.specs.declared.Adding.the-variants.{Added}
@@ -56,7 +57,7 @@ module _ (run : Run) (start t : ℕ) (h : start ≤ t) (r : t < ticks) (f : Hold
       }
   windowed-grows (full {r} e) =
       let counts : addedTo (tallyOf run) start t ≡ Added (counted (tallyOf run) start t) = fits in
-      let z : _≡_ {A = ℕ} 0 1 = cc in absurd (omega arith)
+      impossible cc
 
 pub told-nothing : (run run′ : Run) (t a : ℕ) (d : List ℕ) → a ≡ 0 → run′ ≡ wentOn run (tallyOf run)
     → IsTold run t a d d (record { run = run′; written = 0 })

@@ -1,5 +1,5 @@
 -- `watch::take_chunk` meets its contract: some of the chunk is taken each time, as long as nothing failed. Assumes nothing.
-use Prim.Native.Nat.{_-_, _≤_}
+use Prim.Native.Nat.{_-_}
 use mathlib.Core.Path.{_≡_, refl, _∙_}
 use native.Mathlib.Omega.{arith}
 use lib.ListN.{length, length-drop}

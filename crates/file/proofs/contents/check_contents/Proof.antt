@@ -4,7 +4,8 @@ use Prim.Native.Nat.{_-_}
 use mathlib.Core.Path.{sym, _∙_}
 use native.Mathlib.Omega.{arith}
 use lib.ListN.{length-drop}
-use Rattle.file.proofs.Turns.{KeptContents, rest-part, contents-none, contents-all, contents-here, contents-more}
+use Rattle.rules.proofs.Lists.{drop-part}
+use Rattle.file.proofs.Turns.{KeptContents, contents-none, contents-all, contents-here, contents-more}
 use borrow.Author.Tests.{not-true, not-false}
 use borrow.Author.Needs.{needs}
 use Rattle.file.proofs.contents.check_contents.Statement.{statement}
@@ -47,7 +48,7 @@ content-kept-requires : tie.Need-content-kept-requires Inv-loop μ-loop
 content-kept-requires c κs =
     let k = c .before .before .before in
     let f = k .before .before .args .rest .now in
-    rw (rest-part f (k .loop .at), length-drop (k .loop .at) f) (omega arith)
+    rw (drop-part f (k .loop .at), length-drop (k .loop .at) f) (omega arith)
 
 returns : tie.Need-returns Inv-loop μ-loop
 returns c =

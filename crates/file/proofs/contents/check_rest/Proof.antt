@@ -1,7 +1,7 @@
 -- `file::contents::check_rest` meets its contract: each way out is one of the law for its answer. Assumes nothing.
 use mathlib.Core.Path.{sym, ap₂, _∙_}
+use Rattle.rules.proofs.Lists.{drop-part}
 use Rattle.file.specs.Check.{bodiesCheck}
-use Rattle.file.proofs.Turns.{rest-part}
 use Rattle.file.proofs.Checks.{rest-none, rest-many, rest-short, rest-entry, rest-bodies, length-counts, counts-lent}
 use native.Mathlib.Omega.{arith}
 use borrow.Author.Needs.{needs}
@@ -72,7 +72,7 @@ returns-5 c =
     let e = m .before in
     let f = e .before .before .before .before .args .rest .now in
     c .check-bodies .ensures
-    ∙ ap₂ bodiesCheck (counts-lent _ f _ _ (q .copy-counts .ensures)) (rest-part f _)
+    ∙ ap₂ bodiesCheck (counts-lent _ f _ _ (q .copy-counts .ensures)) (drop-part f _)
     ∙ rest-bodies _ f (e .before .before .if1 .left) (e .before .if2 .left) (e .if3 .left) (sym (m .check-contents .ensures) ∙ n .enum-told .given .1)
 
 pub check-rest-spec : {M : Type 1} → statement M

@@ -3,7 +3,7 @@ use Prim.Native.Nat.{_-_}
 use mathlib.Core.Path.{sym, _∙_}
 use native.Mathlib.Omega.{arith}
 use lib.ListN.{length-drop}
-use Rattle.file.proofs.Turns.{rest-part}
+use Rattle.rules.proofs.Lists.{drop-part}
 use Rattle.file.proofs.Finds.{Sought, sound-long, sought-none, sought-here, sought-more, sought-all}
 use borrow.Author.Needs.{needs}
 use Rattle.file.proofs.finder.find.Statement.{statement}
@@ -56,7 +56,7 @@ offset-of-requires : tie.Need-offset-of-requires Inv-loop μ-loop
 offset-of-requires c κs =
     let k = c .before .before .before .before .before in
     let f = k .before .before .before .before .before .args .file .now in
-    rw (rest-part f (k .loop .at), length-drop (k .loop .at) f) (omega arith)
+    rw (drop-part f (k .loop .at), length-drop (k .loop .at) f) (omega arith)
 
 add-wide : tie.Need-add-wide Inv-loop μ-loop
 add-wide c = search needs

@@ -4,9 +4,10 @@ use Prim.Native.Nat.{_+_, _-_, _<_}
 use native.Mathlib.Omega.{arith}
 use lib.ListN.{drop}
 use borrow.Author.Needs.{needs}
+use Rattle.rules.proofs.Lists.{drop-part}
 use Rattle.watcher.specs.Walk.{extent}
 use Rattle.watcher.proofs.SetJudges.{SetJudging, set-judging-start, set-judging-late, set-judging-end, set-judging-broken}
-use Rattle.watcher.proofs.SetJudges.{set-judging-within, set-judging-two, set-judging-more, all-from}
+use Rattle.watcher.proofs.SetJudges.{set-judging-within, set-judging-two, set-judging-more}
 use Rattle.watcher.proofs.set.judge.Statement.{statement}
 use Rattle.watcher.proofs.set.judge.Tie as tie
 
@@ -20,7 +21,7 @@ abbrev μ-loop : tie.MeasureT-loop
 words : (c : tie.After-extent Inv-loop μ-loop)
     → let k = c .before .before .before in
     c .extent .result ≡ extent (drop (k .loop .at) (k .before .before .before .args .states .now))
-words c = let k = c .before .before .before in c .extent .ensures ∙ ap extent (all-from (k .before .before .before .args .states .now) (k .loop .at))
+words c = let k = c .before .before .before in c .extent .ensures ∙ ap extent (drop-part (k .before .before .before .args .states .now) (k .loop .at))
 
 some : (c : tie.Else1 Inv-loop μ-loop)
     → let k = c .before .before .before .before in

@@ -1,9 +1,9 @@
 -- `watcher::walk::letter_answer` meets its contract: the test is that of the letter's bit. Assumes nothing.
-use mathlib.Core.Path.{_≡_, sym, _∙_}
-use Prim.Native.Nat.{ℕ, suc}
+use mathlib.Core.Path.{sym, _∙_}
+use Prim.Native.Nat.{suc}
 use native.Mathlib.Decide.{ℕ-discrete}
 use native.Mathlib.Numerals.{add-one}
-use native.Mathlib.Omega.{arith}
+use Rattle.rules.proofs.Impossible.{impossible}
 use Rattle.rules.specs.Bits.{bit}
 use Rattle.rules.proofs.Decisions.{pick-yes, pick-no}
 use borrow.Author.Needs.{needs}
@@ -25,7 +25,7 @@ returns-2 : tie.Need-returns-2
 returns-2 c =
     let a = c .before .before .args in
     sym (pick-no (ℕ-discrete (bit (a .events) (a .kind)) 1) (suc (a .t)) 0
-    (λ h. let q = c .before .occurs .ensures .1 h in let z : _≡_ {A = ℕ} 0 1 = cc in omega arith))
+    (λ h. let q = c .before .occurs .ensures .1 h in impossible cc))
 
 pub letter-answer-spec : {M : Type 1} → statement M
 letter-answer-spec = tie.close (tie.spec occurs-requires add-result returns returns-2)
