@@ -9,7 +9,7 @@ use native.Mathlib.Decide.{decLt}
 use native.Mathlib.Omega.{arith}
 use lib.Dec.{ltb, eqb}
 use lib.ListN.{length, getD, take, drop, length-drop}
-use lib.Seq.{drop-drop, length-take-le}
+use lib.Seq.{length-take-le}
 use borrow.Author.Tests.{lt-ltb, le-ltb, eq-eqb, ltb-true, eqb-true}
 use Rattle.file.specs.declared.Place.the-variants.{At, Nowhere}
 use Rattle.file.specs.Contents.{below, bodyBytes, nameBytes, nameOf, contents, total}
