@@ -27,7 +27,7 @@ BodyRight counts bodies b = bodyCheck argumentBytes (bodyOf counts bodies b) ≡
 
 -- which answer is called for, where Counted is the rule on the number of patterns and Right the rule on each entry of the contents:
 -- Count if Counted fails; else Entry with the lowest entry that breaks its rule; else Size if the bodies end elsewhere; else Body with the lowest body
--- that breaks its rules, and the entry at which the check of a lone body refuses it; else the file is sound
+-- that breaks its rules, and the entry at which the check of a lone body refuses it, its lowest (crates/body, `RefusedLowest`); else the file is sound
 pub data Judged (Counted : Type 0) (Right : ℕ → Type 0) (counts bodies : List ℕ) : FileCheck → Type 0 where
   count : (Counted → ⊥) → Judged Counted Right counts bodies (Refused Count)
   entry : {i : ℕ} → Counted → i < length counts → AllBelow i Right → (Right i → ⊥) → Judged Counted Right counts bodies (Refused (Entry i))
