@@ -1,85 +1,48 @@
 -- What is claimed of the calls for C: the arguments leave one outcome, in every lent slice, every lent number and the status word. A call whose
--- promise is one equation needs no claim. Assumes nothing: these are definitions.
+-- promise is an equation for each needs no claim. Assumes nothing: these are definitions.
 use mathlib.Core.Path.{_≡_}
 use mathlib.Core.List.{List}
 use Prim.Native.Nat.{ℕ}
 use Rattle.body.specs.Bytes.{Bytes}
-use Rattle.file.specs.Lookup.{findingOf}
+use Rattle.text.specs.Answer.{ReadingOf, PrintingOf}
+use Rattle.file.specs.Write.{Wrote}
+use Rattle.plain.specs.Answer.{Answers}
 use Rattle.plain.specs.Claim.{Words}
-use Rattle.mws.specs.Status.{TextRead, TextPrinted, PlainDone, RowLatest, RoomTold, StateOpened, StateTicked, FileWritten, LookedUp}
-use Rattle.mws.specs.Status.{StateFed, SetRoomTold, SetOpened, SetTaken, TallyAdded}
+use Rattle.watcher.specs.Answer.{RoomAnswers, OpenAnswers, TickAnswers}
+use Rattle.watcher.specs.Feed.{FeedAnswers}
+use Rattle.watcher.specs.Set.{SetAnswers}
+use Rattle.watcher.specs.SetFile.{SetRoomAnswers, SetOpenAnswers}
+use Rattle.mws.specs.Status.{Outcome, Told, Done, evaluating, RowLatest}
 
--- no second body, number and status word meet the promise of reading text
-abbrev pub OneTextRead : Type 0
-OneTextRead =
-    (s d d₁ d₂ : List ℕ) (n n₁ n₂ w₁ w₂ : ℕ) → TextRead s d d₁ n n₁ w₁ → TextRead s d d₂ n n₂ w₂
-    → (d₁ ≡ d₂) × (n₁ ≡ n₂) × (w₁ ≡ w₂)
+-- a promise on what a slice holds afterwards and on the answer leaves no choice
+abbrev pub Fixed : {A B : Type 0} → (B → A → Type 0) → Type 0
+Fixed {A} {B} P = (b b′ : B) (a a′ : A) → P b a → P b′ a′ → (b ≡ b′) × (a ≡ a′)
 
--- no second text, number and status word meet the promise of printing text
-abbrev pub OneTextPrinted : Type 0
-OneTextPrinted =
-    (b d d₁ d₂ : List ℕ) (n n₁ n₂ w₁ w₂ : ℕ) → TextPrinted b d d₁ n n₁ w₁ → TextPrinted b d d₂ n n₂ w₂
-    → (d₁ ≡ d₂) × (n₁ ≡ n₂) × (w₁ ≡ w₂)
+-- then the call for C has one outcome: what is held afterwards, the number lent and the status word
+abbrev pub OneOutcome : Type 1
+OneOutcome =
+    (A B : Type 0) (view : A → Outcome) (P : B → A → Type 0) → Fixed P
+    → (b b′ : B) (n n₁ n₂ w₁ w₂ : ℕ) → Told view (P b) n n₁ w₁ → Told view (P b′) n n₂ w₂ → (b ≡ b′) × (n₁ ≡ n₂) × (w₁ ≡ w₂)
+
+-- the promises behind the calls for C leave no choice; those with two slices are on the pair of what they hold, a room's is on none
+pub record CallsFixed : Type 0 where
+  pub text-read : (s d : List ℕ) → Fixed (ReadingOf s d)
+  pub text-print : (b d : List ℕ) → Fixed (PrintingOf b d)
+  pub file-write : (names counts bodies old : List ℕ) → Fixed (Wrote names counts bodies old)
+  pub watch-room : (b : List ℕ) → Fixed (λ (u : Unit {0}). RoomAnswers b)
+  pub watch-open : (b old : List ℕ) → Fixed (OpenAnswers b old)
+  pub watch-tick : (s : List ℕ) (t w : ℕ) → Fixed (λ s′. TickAnswers s s′ t w)
+  pub watch-feed : (s ts ws old : List ℕ) → Fixed (λ (l : List ℕ × List ℕ). FeedAnswers s ts ws old (l .0) (l .1))
+  pub set-room : (f : List ℕ) → Fixed (λ (u : Unit {0}). SetRoomAnswers f)
+  pub set-open : (f old : List ℕ) → Fixed (SetOpenAnswers f old)
+  pub set-tick : (count : ℕ) (s old : List ℕ) (t w : ℕ) → Fixed (λ (l : List ℕ × List ℕ). SetAnswers count s old t w (l .0) (l .1))
 
 -- for a body of bytes, no second rows of 64-bit words and status word meet the promise of the plain evaluator
-abbrev pub OnePlainDone : Type 0
-OnePlainDone =
+abbrev pub OnePlain : Type 0
+OnePlain =
     (b words old new₁ new₂ : List ℕ) (w₁ w₂ : ℕ) → Bytes b → Words new₁ → Words new₂
-    → PlainDone b words old new₁ w₁ → PlainDone b words old new₂ w₂ → (new₁ ≡ new₂) × (w₁ ≡ w₂)
+    → Done evaluating (Answers b words old new₁) w₁ → Done evaluating (Answers b words old new₂) w₂ → (new₁ ≡ new₂) × (w₁ ≡ w₂)
 
 -- no second number meets the promise of a row's latest start
 abbrev pub OneRowLatest : Type 0
 OneRowLatest = (row n₁ n₂ : ℕ) → RowLatest row n₁ → RowLatest row n₂ → n₁ ≡ n₂
-
--- no second number and status word meet the promise of the room of a body
-abbrev pub OneRoomTold : Type 0
-OneRoomTold = (b : List ℕ) (n n₁ n₂ w₁ w₂ : ℕ) → RoomTold b n n₁ w₁ → RoomTold b n n₂ w₂ → (n₁ ≡ n₂) × (w₁ ≡ w₂)
-
--- no second state and status word meet the promise of opening a state
-abbrev pub OneStateOpened : Type 0
-OneStateOpened =
-    (b old new₁ new₂ : List ℕ) (w₁ w₂ : ℕ) → StateOpened b old new₁ w₁ → StateOpened b old new₂ w₂ → (new₁ ≡ new₂) × (w₁ ≡ w₂)
-
--- no second state, answer and status word meet the promise of a tick
-abbrev pub OneStateTicked : Type 0
-OneStateTicked =
-    (s s₁ s₂ : List ℕ) (t w a a₁ a₂ w₁ w₂ : ℕ) → StateTicked s s₁ t w a a₁ w₁ → StateTicked s s₂ t w a a₂ w₂
-    → (s₁ ≡ s₂) × (a₁ ≡ a₂) × (w₁ ≡ w₂)
-
--- no second file, number and status word meet the promise of writing a file
-abbrev pub OneFileWritten : Type 0
-OneFileWritten =
-    (names counts bodies old new₁ new₂ : List ℕ) (n n₁ n₂ w₁ w₂ : ℕ) → FileWritten names counts bodies old new₁ n n₁ w₁
-    → FileWritten names counts bodies old new₂ n n₂ w₂ → (new₁ ≡ new₂) × (n₁ ≡ n₂) × (w₁ ≡ w₂)
-
--- no second place, length and status word meet the promise of a lookup
-abbrev pub OneLookedUp : Type 0
-OneLookedUp =
-    (site fleet name : List ℕ) (from from₁ from₂ long long₁ long₂ w₁ w₂ : ℕ) → LookedUp (findingOf site fleet name) from from₁ long long₁ w₁
-    → LookedUp (findingOf site fleet name) from from₂ long long₂ w₂ → (from₁ ≡ from₂) × (long₁ ≡ long₂) × (w₁ ≡ w₂)
-
--- no second state, answers and status word meet the promise of many ticks
-abbrev pub OneStateFed : Type 0
-OneStateFed =
-    (s ts ws old s₁ s₂ new₁ new₂ : List ℕ) (w₁ w₂ : ℕ) → StateFed s ts ws old s₁ new₁ w₁ → StateFed s ts ws old s₂ new₂ w₂
-    → (s₁ ≡ s₂) × (new₁ ≡ new₂) × (w₁ ≡ w₂)
-
--- no second number and status word meet the promise of the room of a set
-abbrev pub OneSetRoomTold : Type 0
-OneSetRoomTold = (f : List ℕ) (n n₁ n₂ w₁ w₂ : ℕ) → SetRoomTold f n n₁ w₁ → SetRoomTold f n n₂ w₂ → (n₁ ≡ n₂) × (w₁ ≡ w₂)
-
--- no second states and status word meet the promise of opening a set
-abbrev pub OneSetOpened : Type 0
-OneSetOpened =
-    (f old new₁ new₂ : List ℕ) (w₁ w₂ : ℕ) → SetOpened f old new₁ w₁ → SetOpened f old new₂ w₂ → (new₁ ≡ new₂) × (w₁ ≡ w₂)
-
--- no second states, answers and status word meet the promise of a set's tick
-abbrev pub OneSetTaken : Type 0
-OneSetTaken =
-    (count : ℕ) (s old s₁ s₂ new₁ new₂ : List ℕ) (t w w₁ w₂ : ℕ) → SetTaken count s old t w s₁ new₁ w₁ → SetTaken count s old t w s₂ new₂ w₂
-    → (s₁ ≡ s₂) × (new₁ ≡ new₂) × (w₁ ≡ w₂)
-
--- no second tally and status word meet the promise of adding a window
-abbrev pub OneTallyAdded : Type 0
-OneTallyAdded =
-    (l l₁ l₂ : List ℕ) (start end w₁ w₂ : ℕ) → TallyAdded l l₁ start end w₁ → TallyAdded l l₂ start end w₂ → (l₁ ≡ l₂) × (w₁ ≡ w₂)

@@ -1,10 +1,10 @@
--- What the calls for C promise: the status word is 0 if the call is accepted, else the refusal's packed word (number in bits 0-7, place in
--- bits 8-39, entry in bits 40-47); the slices are those of the call's own promise, and a number that is lent is written only if accepted.
--- Assumes nothing: these are definitions.
+-- What the calls for C promise: what the call behind each promises, a status word, and that a number lent for the answer is written only if the
+-- call is accepted (docs/RULES.md, "Refusals"). Assumes nothing: these are definitions.
 use mathlib.Core.Path.{_≡_}
 use mathlib.Core.List.{List}
 use lib.ListN.{getD, set}
 use Prim.Native.Nat.{ℕ, suc, _+_, _^_}
+use Rattle.refusal.specs.declared.Refusal.{Refusal}
 use Rattle.refusal.specs.Table.{packedOf}
 use Rattle.body.specs.declared.BodyCheck.{BodyCheck}
 use Rattle.body.specs.declared.BodyCheck.the-variants as Checks
@@ -43,120 +43,95 @@ use Rattle.watcher.specs.declared.set.SetTicking.the-variants as Sets
 use Rattle.watcher.specs.Set.{SetAnswers}
 use Rattle.watcher.specs.SetFile.{SetRoomAnswers, SetOpenAnswers}
 use Rattle.tally.specs.declared.Tally.{Tally}
-use Rattle.tally.specs.Tallied.{addedTo, statusOf, after}
+use Rattle.tally.specs.Tallied.{addedTo, statusOf as tallyStatus, after}
+
+-- what an answer is to C: accepted, with the number that the call gives (0 where it gives none), or refused
+pub data Outcome : Type 0 where
+  accepted : ℕ → Outcome
+  refused : Refusal → Outcome
+
+-- the status word
+abbrev pub statusOf : Outcome → ℕ
+statusOf (accepted n) = 0
+statusOf (refused r) = packedOf r
+
+-- the number lent for the answer, afterwards
+abbrev pub numberAfter : Outcome → ℕ → ℕ
+numberAfter (accepted n) old = n
+numberAfter (refused r) old = old
+
+-- a call for C: the call behind it gave an answer as it promises, and the status word and the number lent are those of that answer
+pub record Told {A : Type 0} (view : A → Outcome) (Promise : A → Type 0) (number number′ status : ℕ) : Type 0 where
+  pub answer : A
+  pub promise : Promise answer
+  pub lent : number′ ≡ numberAfter (view answer) number
+  pub word : status ≡ statusOf (view answer)
+
+-- the same for a call that is lent no number
+abbrev pub Done : {A : Type 0} → (A → Outcome) → (A → Type 0) → ℕ → Type 0
+Done view Promise status = Told view Promise 0 0 status
 
 -- the check of a body
-abbrev pub checkStatus : BodyCheck → ℕ
-checkStatus Checks.Sound = 0
-checkStatus (Checks.Refused r) = packedOf r
+abbrev pub checked : BodyCheck → Outcome
+checked Checks.Sound = accepted 0
+checked (Checks.Refused r) = refused r
 
--- reading text: the bytes written
-abbrev pub readStatus : Reading → ℕ
-readStatus (Reads.Read bytes) = 0
-readStatus (Reads.Refused r) = packedOf r
+-- the check of a file
+abbrev pub filed : FileCheck → Outcome
+filed Files.Sound = accepted 0
+filed (Files.Refused r) = refused r
 
-abbrev pub readBytes : Reading → ℕ → ℕ
-readBytes (Reads.Read bytes) old = bytes
-readBytes (Reads.Refused r) old = old
+-- reading text gives the bytes written
+abbrev pub reading : Reading → Outcome
+reading (Reads.Read bytes) = accepted bytes
+reading (Reads.Refused r) = refused r
 
-pub record TextRead (s d d′ : List ℕ) (written written′ status : ℕ) : Type 0 where
-  pub answer : Reading
-  pub promise : ReadingOf s d d′ answer
-  pub lent : written′ ≡ readBytes answer written
-  pub word : status ≡ readStatus answer
+-- so does printing it
+abbrev pub printing : Printing → Outcome
+printing (Prints.Printed bytes) = accepted bytes
+printing (Prints.Refused r) = refused r
 
--- printing text: the bytes written
-abbrev pub printStatus : Printing → ℕ
-printStatus (Prints.Printed bytes) = 0
-printStatus (Prints.Refused r) = packedOf r
-
-abbrev pub printBytes : Printing → ℕ → ℕ
-printBytes (Prints.Printed bytes) old = bytes
-printBytes (Prints.Refused r) old = old
-
-pub record TextPrinted (b d d′ : List ℕ) (written written′ status : ℕ) : Type 0 where
-  pub answer : Printing
-  pub promise : PrintingOf b d d′ answer
-  pub lent : written′ ≡ printBytes answer written
-  pub word : status ≡ printStatus answer
+-- and writing a file
+abbrev pub writing : Writing → Outcome
+writing (Writes.Written bytes) = accepted bytes
+writing (Writes.Refused r) = refused r
 
 -- the plain evaluator
-abbrev pub plainStatus : Evaluation → ℕ
-plainStatus Evaluates.Evaluated = 0
-plainStatus (Evaluates.Refused r) = packedOf r
+abbrev pub evaluating : Evaluation → Outcome
+evaluating Evaluates.Evaluated = accepted 0
+evaluating (Evaluates.Refused r) = refused r
 
-pub record PlainDone (b words old new : List ℕ) (status : ℕ) : Type 0 where
-  pub answer : Evaluation
-  pub promise : Answers b words old new answer
-  pub word : status ≡ plainStatus answer
+-- a room is a number of words
+abbrev pub needing : Needed → Outcome
+needing (Needs.Words n) = accepted n
+needing (Needs.Refused r) = refused r
+
+-- opening a state or a set
+abbrev pub opening : Opening → Outcome
+opening Opens.Opened = accepted 0
+opening (Opens.Refused r) = refused r
+
+-- a tick gives start + 1 of the window, or 0
+abbrev pub ticking : Ticking → Outcome
+ticking (Ticks.Window start) = accepted (suc start)
+ticking Ticks.Nothing = accepted 0
+ticking (Ticks.Refused r) = refused r
+
+-- many ticks
+abbrev pub feeding : Feeding → Outcome
+feeding Feeds.Fed = accepted 0
+feeding (Feeds.Refused r) = refused r
+
+-- a set's tick
+abbrev pub settling : SetTicking → Outcome
+settling Sets.Ticked = accepted 0
+settling (Sets.Refused r) = refused r
 
 -- the latest start of a row: start + 1, or 0
 pub record RowLatest (row result : ℕ) : Type 0 where
   pub start : Start
   pub promise : IsLatest row start
   pub number : result ≡ startNumber start
-
--- the room of a body
-abbrev pub roomStatus : Needed → ℕ
-roomStatus (Needs.Words n) = 0
-roomStatus (Needs.Refused r) = packedOf r
-
-abbrev pub roomWords : Needed → ℕ → ℕ
-roomWords (Needs.Words n) old = n
-roomWords (Needs.Refused r) old = old
-
-pub record RoomTold (b : List ℕ) (words words′ status : ℕ) : Type 0 where
-  pub answer : Needed
-  pub promise : RoomAnswers b answer
-  pub lent : words′ ≡ roomWords answer words
-  pub word : status ≡ roomStatus answer
-
--- opening a state
-abbrev pub openStatus : Opening → ℕ
-openStatus Opens.Opened = 0
-openStatus (Opens.Refused r) = packedOf r
-
-pub record StateOpened (b old new : List ℕ) (status : ℕ) : Type 0 where
-  pub answer : Opening
-  pub promise : OpenAnswers b old new answer
-  pub word : status ≡ openStatus answer
-
--- a tick: start + 1 of the window, or 0
-abbrev pub tickStatus : Ticking → ℕ
-tickStatus (Ticks.Window start) = 0
-tickStatus Ticks.Nothing = 0
-tickStatus (Ticks.Refused r) = packedOf r
-
-abbrev pub tickAnswer : Ticking → ℕ → ℕ
-tickAnswer (Ticks.Window start) old = suc start
-tickAnswer Ticks.Nothing old = 0
-tickAnswer (Ticks.Refused r) old = old
-
-pub record StateTicked (s s′ : List ℕ) (t w a a′ status : ℕ) : Type 0 where
-  pub answer : Ticking
-  pub promise : TickAnswers s s′ t w answer
-  pub lent : a′ ≡ tickAnswer answer a
-  pub word : status ≡ tickStatus answer
-
--- the check of a file
-abbrev pub fileStatus : FileCheck → ℕ
-fileStatus Files.Sound = 0
-fileStatus (Files.Refused r) = packedOf r
-
--- writing a file: the bytes written
-abbrev pub writeStatus : Writing → ℕ
-writeStatus (Writes.Written bytes) = 0
-writeStatus (Writes.Refused r) = packedOf r
-
-abbrev pub writeBytes : Writing → ℕ → ℕ
-writeBytes (Writes.Written bytes) old = bytes
-writeBytes (Writes.Refused r) old = old
-
-pub record FileWritten (names counts bodies old new : List ℕ) (written written′ status : ℕ) : Type 0 where
-  pub answer : Writing
-  pub promise : Wrote names counts bodies old new answer
-  pub lent : written′ ≡ writeBytes answer written
-  pub word : status ≡ writeStatus answer
 
 -- a lookup: bits 48-51 have the file, 0 the site's and 1 the fleet's
 abbrev pub fileBits : Whose → ℕ
@@ -184,42 +159,10 @@ pub record LookedUp (answer : Finding) (from from′ long long′ status : ℕ) 
   pub bytes : long′ ≡ lookupLong answer long
   pub word : status ≡ lookupStatus answer
 
--- many ticks
-abbrev pub feedStatus : Feeding → ℕ
-feedStatus Feeds.Fed = 0
-feedStatus (Feeds.Refused r) = packedOf r
-
-pub record StateFed (s ts ws old s′ new : List ℕ) (status : ℕ) : Type 0 where
-  pub answer : Feeding
-  pub promise : FeedAnswers s ts ws old s′ new answer
-  pub word : status ≡ feedStatus answer
-
--- the room of a set, and its opening
-pub record SetRoomTold (f : List ℕ) (words words′ status : ℕ) : Type 0 where
-  pub answer : Needed
-  pub promise : SetRoomAnswers f answer
-  pub lent : words′ ≡ roomWords answer words
-  pub word : status ≡ roomStatus answer
-
-pub record SetOpened (f old new : List ℕ) (status : ℕ) : Type 0 where
-  pub answer : Opening
-  pub promise : SetOpenAnswers f old new answer
-  pub word : status ≡ openStatus answer
-
--- a set's tick
-abbrev pub setStatus : SetTicking → ℕ
-setStatus Sets.Ticked = 0
-setStatus (Sets.Refused r) = packedOf r
-
-pub record SetTaken (count : ℕ) (s old : List ℕ) (t w : ℕ) (s′ new : List ℕ) (status : ℕ) : Type 0 where
-  pub answer : SetTicking
-  pub promise : SetAnswers count s old t w s′ new answer
-  pub word : status ≡ setStatus answer
-
 -- a tally of two words: windows and ticks
 abbrev pub tallyOf : List ℕ → Tally
 tallyOf l = record { windows = getD l 0 0; ticks = getD l 1 0 }
 
 pub record TallyAdded (l l′ : List ℕ) (start end status : ℕ) : Type 0 where
   pub words : l′ ≡ set (set l 0 (after (tallyOf l) (addedTo (tallyOf l) start end) .windows)) 1 (after (tallyOf l) (addedTo (tallyOf l) start end) .ticks)
-  pub word : status ≡ statusOf (addedTo (tallyOf l) start end)
+  pub word : status ≡ tallyStatus (addedTo (tallyOf l) start end)

@@ -21,14 +21,20 @@ ghost use Rattle.rules.specs.Bits.{onesBelow};
 ghost use Rattle.body.specs.Check.{checkOf};
 ghost use Rattle.file.specs.Check.{checkOf as fileCheckOf};
 ghost use Rattle.file.specs.Lookup.{findingOf};
-ghost use Rattle.mws.specs.Status.{StateFed, SetRoomTold, SetOpened, SetTaken, TallyAdded};
-ghost use Rattle.mws.specs.Status.{fileStatus, FileWritten, fileBits, LookedUp};
-ghost use Rattle.mws.specs.Status.{checkStatus, TextRead, TextPrinted, PlainDone, RowLatest, RoomTold, StateOpened, StateTicked};
+ghost use Rattle.file.specs.Write.{Wrote};
+ghost use Rattle.text.specs.Answer.{ReadingOf, PrintingOf};
+ghost use Rattle.plain.specs.Answer.{Answers};
+ghost use Rattle.watcher.specs.Answer.{RoomAnswers, OpenAnswers, TickAnswers};
+ghost use Rattle.watcher.specs.Feed.{FeedAnswers};
+ghost use Rattle.watcher.specs.Set.{SetAnswers};
+ghost use Rattle.watcher.specs.SetFile.{SetRoomAnswers, SetOpenAnswers};
+ghost use Rattle.mws.specs.Status.{statusOf, Told, Done, checked, filed, reading, printing, writing, evaluating, needing, opening, ticking, feeding, settling};
+ghost use Rattle.mws.specs.Status.{RowLatest, fileBits, LookedUp, TallyAdded};
 
 // Checks a body.
 #[no_mangle]
 pub extern "C" fn mws_body_check(body: &[u8]) -> u64
-    ensures { λ r. ⌜ r ≡ checkStatus (checkOf argumentBytes (now (body .entry))) ⌝ }
+    ensures { λ r. ⌜ r ≡ statusOf (checked (checkOf argumentBytes (now (body .entry)))) ⌝ }
 {
     match body::check_body(body) {
         BodyCheck::Sound => 0,
@@ -39,7 +45,7 @@ pub extern "C" fn mws_body_check(body: &[u8]) -> u64
 // Reads a pattern's text into a body.
 #[no_mangle]
 pub extern "C" fn mws_text_read(text: &[u8], body: &mut [u8], written: &mut u64) -> u64
-    ensures { λ r. ⌜ TextRead (now (text .entry)) (now (body .entry)) (now (body .exit)) (now (written .entry)) (now (written .exit)) r ⌝ }
+    ensures { λ r. ⌜ Told reading (ReadingOf (now (text .entry)) (now (body .entry)) (now (body .exit))) (now (written .entry)) (now (written .exit)) r ⌝ }
 {
     match text::read_pattern(text, body) {
         Reading::Read(bytes) => {
@@ -53,7 +59,7 @@ pub extern "C" fn mws_text_read(text: &[u8], body: &mut [u8], written: &mut u64)
 // Prints a body as its pattern's text.
 #[no_mangle]
 pub extern "C" fn mws_text_print(body: &[u8], text: &mut [u8], written: &mut u64) -> u64
-    ensures { λ r. ⌜ TextPrinted (now (body .entry)) (now (text .entry)) (now (text .exit)) (now (written .entry)) (now (written .exit)) r ⌝ }
+    ensures { λ r. ⌜ Told printing (PrintingOf (now (body .entry)) (now (text .entry)) (now (text .exit))) (now (written .entry)) (now (written .exit)) r ⌝ }
 {
     match text::print_pattern(body, text) {
         Printing::Printed(bytes) => {
@@ -67,7 +73,7 @@ pub extern "C" fn mws_text_print(body: &[u8], text: &mut [u8], written: &mut u64
 // Checks a pattern file.
 #[no_mangle]
 pub extern "C" fn mws_file_check(file: &[u8]) -> u64
-    ensures { λ r. ⌜ r ≡ fileStatus (fileCheckOf (now (file .entry))) ⌝ }
+    ensures { λ r. ⌜ r ≡ statusOf (filed (fileCheckOf (now (file .entry)))) ⌝ }
 {
     match file::check_file(file) {
         FileCheck::Sound => 0,
@@ -84,7 +90,7 @@ pub extern "C" fn mws_file_write(
     file: &mut [u8],
     written: &mut u64,
 ) -> u64
-    ensures { λ r. ⌜ FileWritten (now (names .entry)) (now (counts .entry)) (now (bodies .entry)) (now (file .entry)) (now (file .exit)) (now (written .entry)) (now (written .exit)) r ⌝ }
+    ensures { λ r. ⌜ Told writing (Wrote (now (names .entry)) (now (counts .entry)) (now (bodies .entry)) (now (file .entry)) (now (file .exit))) (now (written .entry)) (now (written .exit)) r ⌝ }
 {
     match file::write_file(names, counts, bodies, file) {
         Writing::Written(bytes) => {
@@ -129,7 +135,7 @@ fn file_bits(whose: Whose) -> u64
 // Evaluates a body on at most 64 event words: 64 rows for each entry.
 #[no_mangle]
 pub extern "C" fn mws_plain(body: &[u8], events: &[u32], rows: &mut [u64]) -> u64
-    ensures { λ r. ⌜ PlainDone (now (body .entry)) (now (events .entry)) (now (rows .entry)) (now (rows .exit)) r ⌝ }
+    ensures { λ r. ⌜ Done evaluating (Answers (now (body .entry)) (now (events .entry)) (now (rows .entry)) (now (rows .exit))) r ⌝ }
 {
     match plain::evaluate(body, events, rows) {
         Evaluation::Evaluated => 0,
@@ -159,7 +165,7 @@ pub extern "C" fn mws_row_count(row: u64) -> u64
 // The words that a body's state takes.
 #[no_mangle]
 pub extern "C" fn mws_watch_room(body: &[u8], words: &mut u64) -> u64
-    ensures { λ r. ⌜ RoomTold (now (body .entry)) (now (words .entry)) (now (words .exit)) r ⌝ }
+    ensures { λ r. ⌜ Told needing (RoomAnswers (now (body .entry))) (now (words .entry)) (now (words .exit)) r ⌝ }
 {
     match watcher::room(body) {
         Needed::Words(n) => {
@@ -173,7 +179,7 @@ pub extern "C" fn mws_watch_room(body: &[u8], words: &mut u64) -> u64
 // Opens a state for a body.
 #[no_mangle]
 pub extern "C" fn mws_watch_open(body: &[u8], state: &mut [u64]) -> u64
-    ensures { λ r. ⌜ StateOpened (now (body .entry)) (now (state .entry)) (now (state .exit)) r ⌝ }
+    ensures { λ r. ⌜ Done opening (OpenAnswers (now (body .entry)) (now (state .entry)) (now (state .exit))) r ⌝ }
 {
     match watcher::open(body, state) {
         Opening::Opened => 0,
@@ -184,7 +190,7 @@ pub extern "C" fn mws_watch_open(body: &[u8], state: &mut [u64]) -> u64
 // Takes a tick: start + 1 of the window that ends there, or 0.
 #[no_mangle]
 pub extern "C" fn mws_watch_tick(state: &mut [u64], t: u64, events: u32, answer: &mut u64) -> u64
-    ensures { λ r. ⌜ StateTicked (now (state .entry)) (now (state .exit)) t events (now (answer .entry)) (now (answer .exit)) r ⌝ }
+    ensures { λ r. ⌜ Told ticking (TickAnswers (now (state .entry)) (now (state .exit)) t events) (now (answer .entry)) (now (answer .exit)) r ⌝ }
 {
     match watcher::tick(state, t, events) {
         Ticking::Window(start) => {
@@ -207,7 +213,7 @@ pub extern "C" fn mws_watch_feed(
     events: &[u32],
     answers: &mut [u64],
 ) -> u64
-    ensures { λ r. ⌜ StateFed (now (state .entry)) (now (ticks .entry)) (now (events .entry)) (now (answers .entry)) (now (state .exit)) (now (answers .exit)) r ⌝ }
+    ensures { λ r. ⌜ Done feeding (FeedAnswers (now (state .entry)) (now (ticks .entry)) (now (events .entry)) (now (answers .entry)) (now (state .exit)) (now (answers .exit))) r ⌝ }
 {
     match watcher::feed(state, ticks, events, answers) {
         Feeding::Fed => 0,
@@ -218,7 +224,7 @@ pub extern "C" fn mws_watch_feed(
 // The words that the states of a file's patterns take.
 #[no_mangle]
 pub extern "C" fn mws_set_room(file: &[u8], words: &mut u64) -> u64
-    ensures { λ r. ⌜ SetRoomTold (now (file .entry)) (now (words .entry)) (now (words .exit)) r ⌝ }
+    ensures { λ r. ⌜ Told needing (SetRoomAnswers (now (file .entry))) (now (words .entry)) (now (words .exit)) r ⌝ }
 {
     match watcher::set::room(file) {
         Needed::Words(n) => {
@@ -232,7 +238,7 @@ pub extern "C" fn mws_set_room(file: &[u8], words: &mut u64) -> u64
 // Opens a state for each pattern of a file.
 #[no_mangle]
 pub extern "C" fn mws_set_open(file: &[u8], states: &mut [u64]) -> u64
-    ensures { λ r. ⌜ SetOpened (now (file .entry)) (now (states .entry)) (now (states .exit)) r ⌝ }
+    ensures { λ r. ⌜ Done opening (SetOpenAnswers (now (file .entry)) (now (states .entry)) (now (states .exit))) r ⌝ }
 {
     match watcher::set::open(file, states) {
         Opening::Opened => 0,
@@ -249,7 +255,7 @@ pub extern "C" fn mws_set_tick(
     events: u32,
     answers: &mut [u64],
 ) -> u64
-    ensures { λ r. ⌜ SetTaken count (now (states .entry)) (now (answers .entry)) t events (now (states .exit)) (now (answers .exit)) r ⌝ }
+    ensures { λ r. ⌜ Done settling (SetAnswers count (now (states .entry)) (now (answers .entry)) t events (now (states .exit)) (now (answers .exit))) r ⌝ }
 {
     match watcher::set::tick(states, count, t, events, answers) {
         SetTicking::Ticked => 0,

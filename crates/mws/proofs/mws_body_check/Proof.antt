@@ -1,6 +1,7 @@
 -- `mws::mws_body_check` meets its contract: the word of the check's answer. Assumes nothing.
 use mathlib.Core.Path.{sym, ap, _∙_}
-use Rattle.mws.specs.Status.{checkStatus}
+use Rattle.body.specs.declared.BodyCheck.{BodyCheck}
+use Rattle.mws.specs.Status.{statusOf, checked}
 use borrow.Author.Needs.{needs}
 use Rattle.mws.proofs.mws_body_check.Statement.{statement}
 use Rattle.mws.proofs.mws_body_check.Tie as tie
@@ -18,10 +19,10 @@ packed-requires : tie.Need-packed-requires
 packed-requires c κs = search needs
 
 returns : tie.Need-returns
-returns c = ap checkStatus (sym (c .enum-told .given .1) ∙ c .before .before .check-body .ensures)
+returns c = ap (λ (r : BodyCheck). statusOf (checked r)) (sym (c .enum-told .given .1) ∙ c .before .before .check-body .ensures)
 
 returns-2 : tie.Need-returns-2
-returns-2 c = c .packed .ensures ∙ ap checkStatus (sym (c .before .before .r .given .1) ∙ c .before .before .before .before .check-body .ensures)
+returns-2 c = c .packed .ensures ∙ ap (λ (r : BodyCheck). statusOf (checked r)) (sym (c .before .before .r .given .1) ∙ c .before .before .before .before .check-body .ensures)
 
 pub mws-body-check-spec : {M : Type 1} → statement M
 mws-body-check-spec =

@@ -27,7 +27,7 @@ same-length-2 c = search needs
 returns : tie.Need-returns
 returns c =
     let a = c .before .before .before .before .before .before in
-    record { answer = Ticked; promise = subst (SetAnswers _ _ _ _ _ _ _) (c .enum-told .given .1) (a .tick .ensures); word = refl }
+    record { answer = Ticked; promise = subst (SetAnswers _ _ _ _ _ _ _) (c .enum-told .given .1) (a .tick .ensures); lent = refl; word = refl }
 
 same-length-3 : tie.Need-same-length-3
 same-length-3 c = search needs
@@ -38,7 +38,7 @@ same-length-4 c = search needs
 returns-2 : tie.Need-returns-2
 returns-2 c =
     let a = c .before .before .before .before .before .before .before .before in
-    record { answer = Refused (c .before .before .r .given .0 .0); promise = subst (SetAnswers _ _ _ _ _ _ _) (c .before .before .r .given .1) (a .tick .ensures); word = c .packed .ensures }
+    record { answer = Refused (c .before .before .r .given .0 .0); promise = subst (SetAnswers _ _ _ _ _ _ _) (c .before .before .r .given .1) (a .tick .ensures); lent = refl; word = c .packed .ensures }
 
 pub mws-set-tick-spec : {M : Type 1} → statement M
 mws-set-tick-spec =

@@ -24,7 +24,7 @@ same-length c = search needs
 returns : tie.Need-returns
 returns c =
     let a = c .before .before .before .before in
-    record { answer = Opened; promise = subst (OpenAnswers _ _ _) (c .enum-told .given .1) (a .open .ensures); word = refl }
+    record { answer = Opened; promise = subst (OpenAnswers _ _ _) (c .enum-told .given .1) (a .open .ensures); lent = refl; word = refl }
 
 same-length-2 : tie.Need-same-length-2
 same-length-2 c = search needs
@@ -32,7 +32,7 @@ same-length-2 c = search needs
 returns-2 : tie.Need-returns-2
 returns-2 c =
     let a = c .before .before .before .before .before .before in
-    record { answer = Refused (c .before .before .r .given .0 .0); promise = subst (OpenAnswers _ _ _) (c .before .before .r .given .1) (a .open .ensures); word = c .packed .ensures }
+    record { answer = Refused (c .before .before .r .given .0 .0); promise = subst (OpenAnswers _ _ _) (c .before .before .r .given .1) (a .open .ensures); lent = refl; word = c .packed .ensures }
 
 pub mws-watch-open-spec : {M : Type 1} → statement M
 mws-watch-open-spec =
