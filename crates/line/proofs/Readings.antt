@@ -26,7 +26,7 @@ next-byte s i h = rw (add-one, drop-cons s i 0)
 
 -- ---- the number
 
--- the digits before `end` make a number, which is not 0; its value is right up to 2 ^ 32, and else over it
+-- the digits before `end` make a number, which is not 0; its value is right up to 2 ^ 32, and over it otherwise
 pub record Going (s : List ℕ) (end value : ℕ) : Type 0 where
   pub tick : ℕ
   pub some : 0 < tick
