@@ -1,4 +1,5 @@
--- The check of a body: each operator finds its operands, and exactly one tree is left. Assumes nothing: these are definitions.
+-- The check of a body: each operator finds its operands, and exactly one tree is left (docs/RULES.md, "Bodies").
+-- Assumes nothing: these are definitions.
 use Prim.Native.Nat.{ℕ, _+_, _-_, _*_, _%_}
 use mathlib.Core.Bool.{Bool, false, cond}
 use mathlib.Core.List.{List, [], _∷_}
@@ -16,7 +17,7 @@ use Rattle.body.specs.declared.BodyCheck.{BodyCheck}
 use Rattle.body.specs.declared.BodyCheck.the-variants.{Sound, Refused}
 use Rattle.body.specs.Entry.{entries}
 
--- how many trees an entry leaves of d, or that it breaks a rule
+-- how many trees stand after an entry, if d stood before it; or the entry breaks a rule
 unfoldable pub depthOf : Entry → ℕ → Depth
 depthOf (Letter n) d = To (d + 1)
 depthOf (Pair op) d = cond (leb 2 d) (To (d - 1)) Lacks

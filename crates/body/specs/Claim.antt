@@ -66,7 +66,7 @@ LowestRefused width = (b : List ℕ) (i : ℕ) → Counted width (length b) → 
 abbrev pub RefusedSize : ℕ → Type 0
 RefusedSize width = (b : List ℕ) → checkOf width b ≡ Refused Size ↔ (Counted width (length b) → ⊥)
 
--- a body is sound, or its size is refused, or one of its entries or the number of its entries
+-- a body is sound, or it is refused for its size, or with an entry's index up to the number of its entries
 abbrev pub Answered : ℕ → Type 0
 Answered width =
     (b : List ℕ)

@@ -1,4 +1,4 @@
--- Entries of a body: an op, and an argument of `width` bytes (document 01, "Pattern text and body").
+-- Entries of a body: an op, and an argument of `width` bytes (docs/RULES.md, "Bodies").
 -- Assumes nothing: these are definitions.
 use Prim.Native.Nat.{ℕ, zero, suc, _+_, _*_, _/_, _^_}
 use mathlib.Core.Bool.{cond}
@@ -29,7 +29,7 @@ entryOf width op argument =
     (cond (ltb op 5) (cond (eqb argument 0) (Pair (opOf op)) Wrong)
     (cond (eqb op 5) (cond (ltb argument (256 ^ width)) (Within argument) Wrong) Wrong))
 
--- the bytes of an entry; one that breaks a rule by itself has an op that there is not
+-- the bytes of an entry; a wrong one is given an op that does not exist
 unfoldable pub entryBytes : ℕ → Entry → List ℕ
 entryBytes width (Letter n) = 0 ∷ bytesOf width n
 entryBytes width (Pair op) = opNumber op ∷ bytesOf width 0

@@ -1,4 +1,4 @@
--- The body of a pattern: the tree in postfix order (document 01, "Pattern text and body"). Assumes nothing: these are definitions.
+-- The body of a pattern: the tree in postfix order (docs/RULES.md, "Bodies"). Assumes nothing: these are definitions.
 use Prim.Native.Nat.{ℕ, _≤_, _^_}
 use mathlib.Core.List.{List, [], _∷_, _++_}
 use Rattle.rules.specs.Limits.{mostEntries}

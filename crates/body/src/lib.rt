@@ -22,7 +22,7 @@ pub enum Entry {
     Wrong,
 }
 
-// How many trees an entry leaves, or that it does not find its operands.
+// How many trees stand after an entry, or that it lacks an operand.
 pub enum Depth {
     Lacks,
     To(u64),
@@ -137,7 +137,7 @@ fn op_of(op: u64) -> Op
     Op::Chain
 }
 
-// How many trees an entry leaves of d.
+// How many trees stand after an entry, if d stood before it.
 pub fn depth_after(s: Entry, d: u32) -> Depth
     ensures { λ r. ⌜ r ≡ depthOf s d ⌝ }
 {

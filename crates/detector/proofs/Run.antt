@@ -51,7 +51,7 @@ run-good r e τ m (k ∷ h) q f g =
     run-good r e (suc (k .0)) (next e m (k .0) (k .1)) h (q .3) (in-form (k .0) (k .1) τ (q .0) e m f)
     (step r (k .0) (k .1) (q .2) τ (q .0) e m f (good-skip r τ (k .0) (q .0) (q .1) e m g) .good)
 
--- the answer at a tick in the midst of a history is right: the record follows the ticks before it, and has its events
+-- the answer at any tick of a history is right: the record has the events of the ticks before it, and its own
 pub run-always :
     (e : Pattern) (h l : List Tick) (t w : ℕ) → Rising 0 (h ++ ((t, w) ∷ l)) →
     Latest (Has (recordOf (h ++ ((t, w) ∷ l))) e) t (answer e (run e h) t w)

@@ -17,13 +17,13 @@ use Rattle.detector.specs.Step.{later, answer, next}
 use Rattle.detector.specs.Run.{run}
 use Rattle.detector.specs.Form.{Sorted, Form}
 
--- at every accepted tick the answer is the latest start of an instance that ends there, by the rules over all events accepted, the new tick included
+-- at every accepted tick the answer is the latest start of an instance that ends there, by the rules on all accepted events, this tick's included
 abbrev pub Right : Type 0
 Right =
     (e : Pattern) (h : List Tick) (t w : ℕ) → Rising 0 (h ++ ((t, w) ∷ [])) →
     Latest (Has (recordOf (h ++ ((t, w) ∷ []))) e) t (answer e (run e h) t w)
 
--- the same for a tick in the midst of a history: what comes later does not matter
+-- the same for a tick with others after it: what comes later does not matter
 abbrev pub Always : Type 0
 Always =
     (e : Pattern) (h l : List Tick) (t w : ℕ) → Rising 0 (h ++ ((t, w) ∷ l)) →
@@ -33,7 +33,7 @@ Always =
 abbrev pub BeginsInForm : Type 0
 BeginsInForm = (e : Pattern) → Form 0 e (fresh e)
 
--- a tick keeps every memory in form, reached or not: the next tick allowed becomes t + 1, and no `;` keeps more than p(y) pairs
+-- a tick keeps every memory in form, whether a run reaches it or not: the next tick allowed becomes t + 1, and no `;` keeps more than p(y) pairs
 abbrev pub StaysInForm : Type 0
 StaysInForm = (t w τ : ℕ) → τ ≤ t → (e : Pattern) (m : Memory e) → Form τ e m → Form (suc t) e (next e m t w)
 
@@ -45,7 +45,7 @@ FewStarts = (τ : ℕ) (e : Pattern) (m : Memory e) → Form τ e m → length (
 abbrev pub Among : Span → List Span → Type 0
 Among q l = Any (λ c. q ≡ c) l
 
--- c starts later than q, or with it and ends no later
+-- c starts later than q, or with it and does not end later
 abbrev pub Beats : Span → Span → Type 0
 Beats c q = (q .start ≤ c .start) × (q .start ≡ c .start → c .end ≤ q .end)
 
@@ -79,7 +79,7 @@ bothWorded x y left right =
     (pick (ℕ-discrete y 0) 0 (min left y))
     (pick (ℕ-discrete y 0) (min x right) (max (min x right) (min left y)))))
 
--- the answer of `+` is the one in these words, of the operands' answers and of left and right as they become
+-- the answer of `+` is what these words say of the operands' answers and of left and right after the tick
 abbrev pub BothAsWorded : Type 0
 BothAsWorded =
     (x y : Pattern) (m : Memory (pair Both x y)) (t w : ℕ) →

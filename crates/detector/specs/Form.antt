@@ -1,4 +1,4 @@
--- A memory in form (document 01, "A state is in form if"), on trees: the next tick allowed is τ. Assumes nothing: these are definitions.
+-- When a memory is in form (docs/RULES.md, "Room and state"), on trees; τ is the next tick allowed. Assumes nothing: these are definitions.
 use mathlib.Core.Path.{_≡_}
 use mathlib.Core.List.{List, [], _∷_}
 use Prim.Native.Nat.{ℕ, _≤_, _<_}

@@ -1,4 +1,4 @@
--- What the detector remembers between ticks, as a tree shaped by its pattern (document 01, "Room and the watcher's state").
+-- What the detector remembers between ticks, as a tree of the shape of its pattern (docs/RULES.md, "Room and state").
 -- Assumes nothing: these are definitions.
 use mathlib.Core.List.{List, []}
 use Prim.Native.Nat.{ℕ}

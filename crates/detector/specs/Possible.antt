@@ -1,4 +1,5 @@
--- The possible starts of a pattern: the starts that its later instances may have, besides those yet to come; and p, how many there can be.
+-- The possible starts of a pattern: those that its later instances may have, other than starts still to come; and p, how many there can be
+-- (docs/RULES.md, "The detector", "Room and state").
 -- Assumes nothing: these are definitions.
 use mathlib.Core.List.{List, [], _∷_, _++_}
 use Prim.Native.Nat.{ℕ, _+_}

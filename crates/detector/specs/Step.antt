@@ -1,4 +1,4 @@
--- What a tick at t with the events w does: the answer it gives, and the memory after it (document 01, "A tick at t gives each entry one answer").
+-- What a tick at t with the events w does: the answer it gives, and the memory after it (docs/RULES.md, "The detector").
 -- An answer is start + 1 or 0 for none, so the later of two starts is the greater. Assumes nothing: these are definitions.
 use mathlib.Core.List.{_∷_}
 use Prim.Native.Nat.{ℕ, suc, _+_, _≤_, _<_, min, max}
@@ -33,7 +33,7 @@ unblocked v a = decLt v a
 
 -- letter: (t,t) if it occurs
 -- `|`: the later start
--- `+`: the greater of min(x, right) and min(left, y) over starts, left and right as they become (Claim's `BothAsWorded` has all the words)
+-- `+`: the greater of min(x, right) and min(left, y) over starts, with left and right as they are after the tick (`BothAsWorded` in Claim spells it out)
 -- `-`: x's answer stands if it starts strictly later than the latest start of y seen
 -- `;`: from the kept pairs and latest as they were, the pair ending before y's start with the latest start
 -- `@`: its operand's answer if short enough

@@ -1,1 +1,1 @@
-// The bounded detector on trees: definitions and a theorem, no code.
+// The detector on trees: definitions and theorems, no code.

@@ -22,7 +22,7 @@ use Rattle.line.proofs.Parses.{word-some, line-parsed}
 
 -- ---- the number
 
--- the digits before `end` make a number, which is not 0; its value is right up to 2 ^ 32, and else over it
+-- the digits before `end` make a number, which is not 0; its value is right up to 2 ^ 32, and over it otherwise
 pub record Going (s : List ℕ) (end value : ℕ) : Type 0 where
   pub tick : ℕ
   pub some : 0 < tick

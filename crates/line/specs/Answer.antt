@@ -1,4 +1,4 @@
--- What reading and writing a line answer, by the refusals of document 01's table; and what the lent slice holds afterwards.
+-- What reading and writing a line answer (docs/RULES.md, "The watch program", "Refusals"); and what the caller's slice holds afterwards.
 -- Assumes nothing: these are definitions.
 use Prim.Native.Nat.{ℕ, _^_, _<_, _≤_}
 use mathlib.Core.Path.{_≡_}
@@ -50,16 +50,16 @@ pub record IsWritten (bytes d d′ : List ℕ) (n : ℕ) : Type 0 where
   pub fits : n ≤ length d
   pub written : d′ ≡ bytes ++ drop n d
 
--- 8: the slice d lent for the line is too short; the place is the length needed
+-- 8: the slice d for the line is too short; the place is the length needed
 pub record IsRoom (bytes d : List ℕ) (need : ℕ) : Type 0 where
   pub needs : need ≡ length bytes
   pub lacks : length d < need
 
--- a line is not written for this, and for nothing else
+-- this is the only refusal of a line to write
 pub data RefusedWriting (bytes d : List ℕ) : Refusal → Type 0 where
   room : {need : ℕ} → IsRoom bytes d need → RefusedWriting bytes d (Room need)
 
--- the answer to writing a line's bytes, where d is lent for them and holds d′ afterwards; a refusal changes nothing
+-- the answer to writing a line's bytes to the slice d, which holds d′ afterwards; a refusal changes nothing
 abbrev pub LineWrittenOf : List ℕ → List ℕ → List ℕ → LineWritten → Type 0
 LineWrittenOf bytes d d′ (Written n) = IsWritten bytes d d′ n
 LineWrittenOf bytes d d′ (Unwritten r) = RefusedWriting bytes d r × (d′ ≡ d)

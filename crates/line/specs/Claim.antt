@@ -13,11 +13,11 @@ use Rattle.line.specs.declared.LineRead.the-variants.{Tick, Refused as U
 use Rattle.line.specs.declared.LineWritten.{LineWritten}
 use Rattle.line.specs.declared.LineWritten.the-variants.{Written, Refused as Unwritten}
 
--- no second answer meets what reading promises
+-- only one answer meets what reading promises
 abbrev pub OneReading : Type 0
 OneReading = (s : List ℕ) (r₁ r₂ : LineRead) → LineReadOf s r₁ → LineReadOf s r₂ → r₁ ≡ r₂
 
--- no second answer and no second slice meet what writing promises
+-- only one answer and one slice meet what writing promises
 abbrev pub OneWriting : Type 0
 OneWriting =
     (bytes d d₁ d₂ : List ℕ) (r₁ r₂ : LineWritten)
@@ -25,7 +25,7 @@ OneWriting =
     → LineWrittenOf bytes d d₂ r₂
     → (r₁ ≡ r₂) × (d₁ ≡ d₂)
 
--- a tick and its events are known by their line
+-- two different ticks, or the same tick with different events, have different lines
 abbrev pub OneTick : Type 0
 OneTick = (s : List ℕ) (t w t′ w′ : ℕ) → LineOf s t w → LineOf s t′ w′ → (t ≡ t′) × (w ≡ w′)
 

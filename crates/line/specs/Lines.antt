@@ -1,4 +1,4 @@
--- The lines of the watch program (document 01, "The watch program"). Assumes nothing: these are definitions.
+-- The lines of the watch program (docs/RULES.md, "The watch program"). Assumes nothing: these are definitions.
 use Prim.Native.Nat.{ℕ, zero, suc, _+_}
 use mathlib.Core.Bool.{cond}
 use mathlib.Core.List.{List, [], _∷_, _++_}
@@ -19,7 +19,7 @@ mostDigits = 20
 abbrev pub mostWritten : ℕ
 mostWritten = 60
 
--- a number of any size in decimal, no leading zero but for 0 itself: n has at most n + 1 digits
+-- a number of any size in decimal, with no leading zero except for 0 itself; n has at most n + 1 digits
 unfoldable pub decimal : ℕ → List ℕ
 decimal n = digitsIn (suc n) n
 
@@ -27,7 +27,7 @@ decimal n = digitsIn (suc n) n
 abbrev pub letterIf : ℕ → ℕ → List ℕ
 letterIf w n = cond (eqb (bit w n) 1) (letterByte n ∷ []) []
 
--- the letters of a word's events in type order, of so many types from type n on
+-- the letters of a word's events in type order, for `types` types from type n on
 unfoldable pub lettersFrom : ℕ → ℕ → ℕ → List ℕ
 lettersFrom zero n w = []
 lettersFrom (suc types) n w = letterIf w n ++ lettersFrom types (n + 1) w

@@ -1,4 +1,4 @@
--- An inner device of the reader's proof, cited by no public contract: reading a line a byte at a time, into a tick of any size and a word.
+-- Reading a line a byte at a time, into a tick of any size and a word, for the proof of the reader; no public contract cites it.
 -- Assumes nothing: these are definitions.
 use Prim.Native.Nat.{ℕ, _+_, _*_, _^_}
 use mathlib.Core.Bool.{cond}

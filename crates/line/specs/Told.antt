@@ -1,4 +1,4 @@
--- Inner devices: what the functions below the public calls promise, cited by no public contract. Assumes nothing: these are definitions.
+-- What the functions below the public calls promise; no public contract cites these. Assumes nothing: these are definitions.
 use Prim.Native.Nat.{ℕ, _+_, _≤_, min}
 use mathlib.Core.Path.{_≡_}
 use mathlib.Core.List.{List, _++_}
@@ -10,7 +10,7 @@ use Rattle.line.specs.Scan.Front.{none, number}
 use Rattle.line.specs.declared.reader.Decimal.{Decimal}
 use Rattle.line.specs.declared.reader.Decimal.the-variants.{Value, Bad}
 
--- a number of any size stands before `end`; its value is told only up to 2 ^ 32
+-- a number of any size stands before `end`; a value over 2 ^ 32 is given as 2 ^ 32
 pub record IsNumber (s : List ℕ) (end value : ℕ) : Type 0 where
   pub tick : ℕ
   pub front : frontOf s ≡ number tick (drop end s)
@@ -26,6 +26,6 @@ pub record Backward (d d′ : List ℕ) (end at : ℕ) (bytes : List ℕ) : Type
   pub room : at + length bytes ≡ end
   pub written : length d ≡ mostWritten → (length d′ ≡ mostWritten) × (drop at d′ ≡ bytes ++ drop end d)
 
--- so many bytes fit before `end`
+-- this many bytes fit before `end`
 abbrev pub Before : ℕ → ℕ → Type 0
 Before bytes end = (bytes ≤ end) × (end ≤ mostWritten)

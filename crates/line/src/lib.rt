@@ -23,7 +23,7 @@ pub enum LineWritten {
     Refused(Refusal),
 }
 
-// Reads a tick, one space, and one or more letters in type order, none twice. A tick too large is told only of a line that is else well formed.
+// Reads a tick, one space, and one or more letters in type order, none twice. Too large a tick is reported only if the line is well formed otherwise.
 pub fn read_tick(line: &[u8]) -> LineRead
     ensures { λ r. ⌜ LineReadOf (now (line .entry)) r ⌝ }
 {
@@ -59,14 +59,14 @@ pub fn write_window(start: u64, end: u64, out: &mut [u8]) -> LineWritten
     writer::write_line(b"", start, b" ", end, out)
 }
 
-// Writes the tally: the windows counted, and the ticks they take in all.
+// Writes the tally: how many windows there are, and how many ticks they take together.
 pub fn write_tally(windows: u64, ticks: u64, out: &mut [u8]) -> LineWritten
     ensures { λ r. ⌜ LineWrittenOf (tallyLine windows ticks) (now (out .entry)) (now (out .exit)) r ⌝ }
 {
     writer::write_line(b"windows ", windows, b" ticks ", ticks, out)
 }
 
-// Writes a refusal: the number of the line refused, and the refusal's own.
+// Writes a refusal: the number of the line, and the number of the refusal.
 pub fn write_refused(line: u64, code: u64, out: &mut [u8]) -> LineWritten
     ensures { λ r. ⌜ LineWrittenOf (refusedLine line code) (now (out .entry)) (now (out .exit)) r ⌝ }
 {

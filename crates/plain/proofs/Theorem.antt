@@ -1,4 +1,5 @@
--- The claims of the plain evaluator: demand 2, that no second outcome meets the promises, and the agreement with the detector.
+-- The claims of specs/Claim, proved: the rows show and count the instances of the rules, the promises leave no choice, and the evaluator agrees
+-- with the detector.
 -- Assumes nothing.
 use mathlib.Core.Path.{_≡_, refl, sym, ap, _∙_, subst}
 use mathlib.Core.Logic.{_↔_, inl, inr, ⊎-elim}

@@ -1,4 +1,5 @@
--- What evaluating answers, and the rows afterwards (document 01: refusals 6, 7, 12, 8). Assumes nothing: these are definitions.
+-- What evaluating answers, and the rows afterwards (docs/RULES.md, "The plain evaluator", "Refusals": 6, 7, 12, 8).
+-- Assumes nothing: these are definitions.
 use mathlib.Core.Path.{_≡_}
 use mathlib.Core.Bool.{cond}
 use mathlib.Core.List.{List}
@@ -20,7 +21,7 @@ use Rattle.plain.specs.Rows.{Written, parts, worded}
 abbrev pub rowsNeeded : List ℕ → ℕ
 rowsNeeded b = length b / (argumentBytes + 1) * mostWords
 
--- a body that is refused is refused so
+-- the body's refusal, if it has one, goes first
 abbrev pub ifSound : BodyCheck → Evaluation → Evaluation
 ifSound Checked.Sound answer = answer
 ifSound (Checked.Refused r) answer = Refused r
@@ -31,7 +32,7 @@ evaluationOf b words room =
     ifSound (checkOf argumentBytes b)
     (cond (ltb mostWords words) (Refused Record) (cond (ltb room (rowsNeeded b)) (Refused (Room (rowsNeeded b))) Evaluated))
 
--- the rows afterwards: each entry's show its instances, or all are kept
+-- the rows afterwards: each entry's rows show its instances, or a refusal changes nothing
 abbrev pub RowsAfter : List ℕ → List ℕ → List ℕ → List ℕ → Evaluation → Type 0
 RowsAfter b words old new Evaluated = (e : Pattern) → BodyOf argumentBytes b e → Written (worded words) (parts e) old new
 RowsAfter b words old new (Refused r) = new ≡ old
@@ -41,7 +42,7 @@ pub record Answers (b words old new : List ℕ) (answer : Evaluation) : Type 0 w
   pub answered : answer ≡ evaluationOf b (length words) (length old)
   pub rows : RowsAfter b words old new answer
 
--- a sound body, a record that is not too long, and its rows: what the filling of all rows is given
+-- what `fill_rows` needs: a sound body, a record that is not too long, and enough rows
 pub record Ready (b words rows : List ℕ) : Type 0 where
   pub sound : checkOf argumentBytes b ≡ Checked.Sound
   pub short : length words ≤ mostWords

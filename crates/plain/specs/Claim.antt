@@ -1,4 +1,5 @@
--- What is claimed of the plain evaluator: demand 2. Assumes nothing: these are definitions.
+-- What is claimed of the plain evaluator: its rows show just the instances of the rules (docs/RULES.md, "The algebra", "The plain evaluator").
+-- Assumes nothing: these are definitions.
 use mathlib.Core.Path.{_≡_}
 use mathlib.Core.Logic.{_↔_}
 use mathlib.Core.List.{List, [], _∷_, _++_}
@@ -32,7 +33,7 @@ ShownExactly =
 abbrev pub Words : List ℕ → Type 0
 Words l = (i : ℕ) → getD l i 0 < 2 ^ 64
 
--- no second answer and no second slice meet the promise
+-- only one answer and one slice meet the promise
 abbrev pub OneAnswer : Type 0
 OneAnswer =
     (b words old new new′ : List ℕ) (a a′ : Evaluation) → Bytes b → Words new → Words new′
@@ -43,7 +44,7 @@ abbrev pub startNumber : Start → ℕ
 startNumber Nowhere = 0
 startNumber (At s) = suc s
 
--- the latest start of a row is one, and so is the answer of `latest_start`
+-- a row has only one latest start, so `latest_start` has only one answer
 abbrev pub OneStart : Type 0
 OneStart = (row : ℕ) (start start′ : Start) → IsLatest row start → IsLatest row start′ → start ≡ start′
 

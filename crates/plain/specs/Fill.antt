@@ -1,4 +1,4 @@
--- What the functions that fill an entry's rows promise each other; no public call cites these. Assumes nothing: these are definitions.
+-- What the functions that fill an entry's rows promise each other; no public contract cites these. Assumes nothing: these are definitions.
 use mathlib.Core.Path.{_≡_}
 use mathlib.Core.Logic.{_⊎_}
 use mathlib.Core.List.{List}

@@ -1,4 +1,4 @@
--- The 64 rows of an entry: bit s of row e stands for the instance from s to e (document 01, "Plain evaluator").
+-- The 64 rows of an entry: bit s of row e stands for the instance from s to e (docs/RULES.md, "The plain evaluator").
 -- Assumes nothing: these are definitions.
 use mathlib.Core.Path.{_≡_}
 use mathlib.Core.Logic.{_↔_}

@@ -21,6 +21,6 @@ pub data Adds : Tally → List Window → Tally → Type 0 where
   none : {t : Tally} → Adds t [] t
   one : {t u v : Tally} {l : List Window} (w : Window) → addedTo t (w .0) (w .1) ≡ Added u → Adds u l v → Adds t (w ∷ l) v
 
--- the windows and the ticks grow by the number of windows added and by the sum over them
+-- the windows grow by the number of windows added, and the ticks by their sum
 abbrev pub Sums : Type 0
 Sums = (t u : Tally) (l : List Window) → Adds t l u → (u .windows ≡ t .windows + length l) × (u .ticks ≡ t .ticks + span l)

@@ -1,4 +1,4 @@
--- What adding a window to a tally gives (document 01, "Tally"; refusals 10, 13). Assumes nothing: these are definitions.
+-- What adding a window to a tally gives (docs/RULES.md, "The tally", "Refusals": 10, 13). Assumes nothing: these are definitions.
 use mathlib.Core.Bool.{Bool, _||_, cond}
 use Prim.Native.Nat.{ℕ, _+_, _-_, _^_}
 use lib.Dec.{ltb, leb}
@@ -30,7 +30,7 @@ abbrev pub statusOf : Adding → ℕ
 statusOf (Added tally) = 0
 statusOf (Refused r) = packedOf r
 
--- the tally afterwards: a refused window leaves it
+-- the tally afterwards: a refused window leaves it as it was
 abbrev pub after : Tally → Adding → Tally
 after tally (Added new) = new
 after tally (Refused r) = tally

@@ -1,4 +1,4 @@
-// The tally of windows: how many, and the ticks they take in all.
+// The tally of windows: how many there are, and how many ticks they take together.
 use refusal::Refusal;
 use rules::LAST_TICK;
 ghost use mathlib.Core.Path.{_≡_};
@@ -10,13 +10,13 @@ pub struct Tally {
     pub ticks: u64,
 }
 
-// What adding a window answers: the tally with it counted.
+// What adding a window answers: the tally with it counted, or why it is refused.
 pub enum Adding {
     Added(Tally),
     Refused(Refusal),
 }
 
-// The tally that the caller lends is updated; a refused window leaves it as it was. Answers 0, or the refusal's word for C.
+// Adds a window to the caller's tally; a refused window leaves it as it was. Answers 0, or the refusal's word for C.
 pub fn add(tally: &mut Tally, start: u64, end: u64) -> u64
     ensures { λ r. ⌜ (r ≡ statusOf (addedTo (now (tally .entry)) start end)) × (now (tally .exit) ≡ after (now (tally .entry)) (addedTo (now (tally .entry)) start end)) ⌝ }
 {
@@ -31,7 +31,7 @@ pub struct Kept {
     pub tally: Tally,
 }
 
-// A window added, with the tally to keep either way.
+// Adds a window, and says which tally to keep either way.
 pub fn settled(tally: Tally, start: u64, end: u64) -> Kept
     ensures { λ r. ⌜ (r .status ≡ statusOf (addedTo tally start end)) × (r .tally ≡ after tally (addedTo tally start end)) ⌝ }
 {

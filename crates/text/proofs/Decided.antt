@@ -1,4 +1,4 @@
--- What reading and printing promise leaves no choice: the answer and what the lent slice holds follow from the arguments. Assumes nothing.
+-- What reading and printing promise leaves no choice: the answer and what the slice holds follow from the arguments. Assumes nothing.
 use mathlib.Core.Path.{_≡_, refl, sym, ap, ap₂, _∙_}
 use Prim.Native.Nat.{ℕ, _-_, _≤_}
 use native.Mathlib.Omega.{arith}

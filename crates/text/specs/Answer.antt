@@ -1,4 +1,4 @@
--- What reading and printing answer, by the refusals of document 01's table, in its order; and what the lent slice holds afterwards.
+-- What reading and printing answer, refusals in the order of docs/RULES.md, "Refusals"; and what the caller's slice holds afterwards.
 -- Assumes nothing: these are definitions.
 use Prim.Native.Nat.{ℕ, _<_, _≤_}
 use mathlib.Core.Path.{_≡_}
@@ -39,7 +39,7 @@ pub record IsMany (s : List ℕ) : Type 0 where
   pub some : IsText s
   pub many : mostEntries < size (some .tree)
 
--- 8: the slice d lent for the body is too short; the place is the length needed
+-- 8: the slice d for the body is too short; the place is the length needed
 pub record IsRoom (s d : List ℕ) (need : ℕ) : Type 0 where
   pub some : IsText s
   pub few : size (some .tree) ≤ mostEntries
@@ -61,7 +61,7 @@ pub data RefusedText (s d : List ℕ) : Refusal → Type 0 where
   many : IsMany s → RefusedText s d Many
   room : {need : ℕ} → IsRoom s d need → RefusedText s d (Room need)
 
--- the answer to reading s, where d is lent for the body and holds d′ afterwards; a refusal changes nothing
+-- the answer to reading s into the slice d, which holds d′ afterwards; a refusal changes nothing
 abbrev pub ReadingOf : List ℕ → List ℕ → List ℕ → Reading → Type 0
 ReadingOf s d d′ (Read bytes) = IsRead s d d′ bytes
 ReadingOf s d d′ (Unread r) = RefusedText s d r × (d′ ≡ d)
@@ -75,7 +75,7 @@ pub record IsBody (b : List ℕ) : Type 0 where
 pub record IsUnsound (b : List ℕ) (r : Refusal) : Type 0 where
   pub unsound : checkOf argumentBytes b ≡ Unsound r
 
--- 8: the slice d lent for the text is too short; the place is the length needed
+-- 8: the slice d for the text is too short; the place is the length needed
 pub record IsTextRoom (b d : List ℕ) (need : ℕ) : Type 0 where
   pub some : IsBody b
   pub needs : need ≡ length (render (some .tree))
@@ -93,7 +93,7 @@ pub data RefusedBody (b d : List ℕ) : Refusal → Type 0 where
   unsound : {r : Refusal} → IsUnsound b r → RefusedBody b d r
   room : {need : ℕ} → IsTextRoom b d need → RefusedBody b d (Room need)
 
--- the answer to printing b, where d is lent for the text and holds d′ afterwards; a refusal changes nothing
+-- the answer to printing b into the slice d, which holds d′ afterwards; a refusal changes nothing
 abbrev pub PrintingOf : List ℕ → List ℕ → List ℕ → Printing → Type 0
 PrintingOf b d d′ (Printed bytes) = IsPrinted b d d′ bytes
 PrintingOf b d d′ (Unprinted r) = RefusedBody b d r × (d′ ≡ d)

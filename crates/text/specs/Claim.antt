@@ -17,12 +17,12 @@ use Rattle.text.specs.declared.Reading.the-variants.{Read, Refused}
 use Rattle.text.specs.declared.Printing.{Printing}
 use Rattle.text.specs.declared.Printing.the-variants.{Printed}
 
--- no second answer and no second slice meet what reading promises
+-- only one answer and one slice meet what reading promises
 abbrev pub OneReading : Type 0
 OneReading =
     (s d d₁ d₂ : List ℕ) (r₁ r₂ : Reading) → ReadingOf s d d₁ r₁ → ReadingOf s d d₂ r₂ → (r₁ ≡ r₂) × (d₁ ≡ d₂)
 
--- nor what printing promises
+-- and only one what printing promises
 abbrev pub OnePrinting : Type 0
 OnePrinting =
     (b d d₁ d₂ : List ℕ) (r₁ r₂ : Printing) → PrintingOf b d d₁ r₁ → PrintingOf b d d₂ r₂ → (r₁ ≡ r₂) × (d₁ ≡ d₂)

@@ -1,4 +1,4 @@
--- The text of a pattern (document 01, "Pattern text and body"). Assumes nothing: these are definitions.
+-- The text of a pattern (docs/RULES.md, "Pattern text"). Assumes nothing: these are definitions.
 use Prim.Native.Nat.{ℕ, zero, suc, _+_, _/_, _%_, _^_}
 use mathlib.Core.Bool.{cond}
 use mathlib.Core.List.{List, [], _∷_, _++_}
@@ -31,7 +31,7 @@ opByte Both = 43
 opByte Without = 45
 opByte Chain = 59
 
--- a number in decimal, no leading zero but for 0 itself, where it has at most so many digits; 48 is `0`
+-- a number of at most `most` digits in decimal, with no leading zero except for 0 itself; 48 is `0`
 unfoldable pub digitsIn : ℕ → ℕ → List ℕ
 digitsIn zero n = []
 digitsIn (suc most) n = cond (ltb n 10) ((n + 48) ∷ []) (digitsIn most (n / 10) ++ ((n % 10 + 48) ∷ []))

@@ -1,4 +1,4 @@
--- Inner devices: what the functions below `read_pattern` and `print_pattern` promise, cited by no public contract.
+-- What the functions below `read_pattern` and `print_pattern` promise; no public contract cites these.
 -- Assumes nothing: these are definitions.
 use Prim.Native.Nat.{ℕ, _+_, _*_, _<_, _≤_}
 use mathlib.Core.Path.{_≡_}
