@@ -120,20 +120,24 @@ def judged(name, ran, wanted, fault, signalled=None):
 
 
 def pausing(case, data, places, non_blocking=True):
-    """Runs the program on a pipe whose writer pauses at each of these places. The program may be gone by then."""
+    """Runs the program on a pipe whose writer pauses at each of these places: a while, or where the pipe is non-blocking,
+    until the program is gone."""
     source, sink = os.pipe()
     if non_blocking:
         unblocked(source)
 
-    def feed(_):
+    def feed(p):
         os.close(source)
         at = 0
         try:
             for place in places + [len(data)]:
                 while at < place:
                     at += os.write(sink, data[at:place])
-                time.sleep(0.3)
-        except BrokenPipeError:
+                if non_blocking:
+                    p.wait(timeout=20)
+                else:
+                    time.sleep(0.3)
+        except (BrokenPipeError, subprocess.TimeoutExpired):
             pass
         os.close(sink)
     return case.run(stdin=source, feed=feed)
