@@ -1,9 +1,9 @@
-pub mod Words
+pub mod WordLaws
 pub mod Sizes
 pub mod Pairs
-pub mod Fits
-pub mod Starts
+pub mod FormLaws
+pub mod StartLaws
 pub mod Choosing
 pub mod Insertion
-pub mod Kept
+pub mod KeptLaws
 pub mod Steps

@@ -1,4 +1,4 @@
--- The form of a cell's words, where the next tick allowed is τ (document 01, "A state is in form if"). Assumes nothing: these are definitions.
+-- The form of a cell's words, where the next tick allowed is τ (docs/RULES.md, "Room and state"). Assumes nothing: these are definitions.
 use mathlib.Core.Bool.{Bool, true, false, cond}
 use mathlib.Core.List.{List, [], _∷_}
 use Prim.Native.Nat.{ℕ, _%_}

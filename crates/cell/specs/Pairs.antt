@@ -3,7 +3,7 @@ use mathlib.Core.List.{List, [], _∷_}
 use Prim.Native.Nat.{ℕ, zero, suc, _+_}
 use lib.ListN.{set}
 use Rattle.detector.specs.Memory.{Span}
-use Rattle.cell.specs.declared.Pair.{Pair}
+use Rattle.cell.specs.declared.pair.Pair.{Pair}
 use Rattle.cell.specs.Words.{spanAt}
 
 -- the code's pair

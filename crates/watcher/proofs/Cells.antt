@@ -12,7 +12,7 @@ use Rattle.detector.specs.Possible.{p}
 use Rattle.detector.specs.Form.{Form}
 use Rattle.cell.specs.Words.{spanWords, keptWords}
 use Rattle.cell.specs.Cell.{cellWords, possible}
-use Rattle.cell.proofs.Words.{length-kept-words}
+use Rattle.cell.proofs.WordLaws.{length-kept-words}
 use Rattle.watcher.specs.State.{cells}
 
 -- the operands' memories

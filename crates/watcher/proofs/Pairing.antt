@@ -14,8 +14,8 @@ use Rattle.cell.specs.Cell.{cellWords, possible, cellAnswer, cellAfter, cellSta
 use Rattle.cell.specs.Calls.{isCell, Stepped, StepAnswers, startsFit, Pushed, PushAnswers}
 use Rattle.cell.proofs.Sizes.{is-cell}
 use Rattle.cell.proofs.Steps.{step-answered}
-use Rattle.cell.proofs.Starts.{cell-starts-fit, push-answered}
-use Rattle.cell.proofs.Words.{length-after, length-cell-starts, length-starts-after}
+use Rattle.cell.proofs.StartLaws.{cell-starts-fit, push-answered}
+use Rattle.cell.proofs.WordLaws.{length-after, length-cell-starts, length-starts-after}
 use Rattle.watcher.specs.Step.{segment, over, ownFrom, PairReady, PairDone}
 
 -- the left operand's starts come first

@@ -14,7 +14,7 @@ use Rattle.detector.specs.Form.{Form}
 use Rattle.detector.proofs.Choice.{choose-before, gather-cases}
 use Rattle.cell.specs.Words.{keptWords, startsIn}
 use Rattle.cell.specs.Cell.{cellWords, possible, cellStarts, startsAfter}
-use Rattle.cell.proofs.Words.{length-starts-after}
+use Rattle.cell.proofs.WordLaws.{length-starts-after}
 use Rattle.watcher.proofs.Cells.{left, right, own, length-own, possible-p}
 
 -- the possible starts, as many as p

@@ -13,7 +13,7 @@ use Rattle.body.specs.declared.Entry.the-variants.{Letter, Pair, Within, Wrong}
 use Rattle.body.specs.Stack.{stackBy}
 use Rattle.body.proofs.Stacks.{stack-pop}
 use Rattle.cell.specs.Cell.{cellWords, cellAnswer, cellAfter, startsAfter}
-use Rattle.cell.proofs.Words.{length-after, length-starts-after}
+use Rattle.cell.proofs.WordLaws.{length-after, length-starts-after}
 use Rattle.watcher.specs.Walk.{entryIn, letterAnswer, withinAnswer, lastAnswer, answerOf}
 use Rattle.watcher.specs.Step.{segment, over, PairReady, PairDone, StackFor, StepsReady, StepsDone}
 use Rattle.watcher.proofs.States.{count-word, state-long}

@@ -16,7 +16,7 @@ use Rattle.detector.specs.Form.{Form}
 use Rattle.detector.proofs.Form.{in-form}
 use Rattle.body.specs.Machine.{eval}
 use Rattle.cell.specs.Cell.{cellWords, cellAnswer, cellAfter}
-use Rattle.cell.proofs.Words.{kept-words}
+use Rattle.cell.proofs.WordLaws.{kept-words}
 use Rattle.watcher.specs.State.{cells}
 use Rattle.watcher.specs.Walk.{Value, tickPair, tickM}
 use Rattle.watcher.proofs.Cells.{left, right, own, cells-pair, cells-ahead, form-left, form-right, length-own}

@@ -16,7 +16,7 @@ use Rattle.body.specs.Entry.{entriesBy}
 use Rattle.body.specs.Machine.{step, run}
 use Rattle.body.proofs.Walk.{run-end}
 use Rattle.cell.specs.Cell.{cellWords, cellAnswer, cellAfter, startsAfter}
-use Rattle.cell.proofs.Words.{length-after}
+use Rattle.cell.proofs.WordLaws.{length-after}
 use Rattle.watcher.specs.State.{InForm}
 use Rattle.watcher.specs.Walk.{Value, Cells, entryIn, tickPair, letterAnswer, withinAnswer, tickM}
 use Rattle.watcher.specs.Walk.{formed, ticked, lastAnswer, answerOf, wordsAfter}

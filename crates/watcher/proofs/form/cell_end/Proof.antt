@@ -7,7 +7,7 @@ use borrow.Author.Needs.{needs}
 use borrow.Rule.Slice.PartMut.{midOf}
 use Rattle.cell.specs.Cell.{cellWords}
 use Rattle.cell.specs.Form.{cellFits}
-use Rattle.cell.proofs.Fits.{cell-in-form}
+use Rattle.cell.proofs.FormLaws.{cell-in-form}
 use Rattle.watcher.proofs.Arrays.{part-is, part-long}
 use Rattle.watcher.proofs.Rooming.{words-le}
 use Rattle.watcher.proofs.Judging.{cell-taken, cell-short, cell-broken}

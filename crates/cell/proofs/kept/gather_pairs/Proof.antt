@@ -1,0 +1,87 @@
+-- `cell::gather_pairs` meets its contract. The loop's invariant: the pairs kept so far are those gathered for the starts from i on.
+-- Assumes nothing.
+use mathlib.Core.Path.{_≡_, refl, _∙_}
+use Prim.Native.Nat.{_+_, _≤_}
+use native.Mathlib.Omega.{arith}
+use lib.ListN.{length, drop}
+use Rattle.detector.specs.Choice.{gather}
+use Rattle.cell.specs.Pairs.{spansFrom}
+use Rattle.cell.proofs.Choosing.{gather-begin, gather-turn, gather-done, insert-ready}
+use borrow.Author.Needs.{needs}
+use Rattle.cell.proofs.kept.gather_pairs.Statement.{statement}
+use Rattle.cell.proofs.kept.gather_pairs.Tie as tie
+
+abbrev Inv-loop : tie.InvT-loop
+Inv-loop cell pairs starts kept₀ count₀ i₀ kept count i =
+    (count + i ≤ length starts) × (length kept ≡ length kept₀) × (spansFrom kept 0 count ≡ gather (spansFrom cell 0 pairs) (drop i starts))
+
+abbrev μ-loop : tie.MeasureT-loop
+μ-loop cell pairs starts kept₀ count₀ i₀ kept count i = i
+
+loop-holds : tie.Need-loop-holds Inv-loop μ-loop
+loop-holds c =
+    let h = c .before .before .before .args in
+    (omega arith, refl, gather-begin (h .kept .now) (spansFrom (h .cell .now) 0 (h .pairs)) (h .starts .now))
+
+sub-i : tie.Need-sub-i Inv-loop μ-loop
+sub-i c = search needs
+
+mul-choose-pair : tie.Need-mul-choose-pair Inv-loop μ-loop
+mul-choose-pair c = search needs
+
+shared-slice-read-choose-pair : tie.Need-shared-slice-read-choose-pair Inv-loop μ-loop
+shared-slice-read-choose-pair c = search needs
+
+choose-pair-requires : tie.Need-choose-pair-requires Inv-loop μ-loop
+choose-pair-requires c κs = search needs
+
+keep-pair-requires : tie.Need-keep-pair-requires Inv-loop μ-loop
+keep-pair-requires c κs =
+    let k = c .before .before .before .before in
+    let h = k .before .before .before .before .args in
+    insert-ready (k .loop .kept) (k .loop .count) (spansFrom (h .cell .now) 0 (h .pairs)) (drop (k .loop .i) (h .starts .now)) (omega arith)
+    (k .loop .inv .2)
+
+loop-less : tie.Need-loop-less Inv-loop μ-loop
+loop-less c = search needs
+
+loop-again : tie.Need-loop-again Inv-loop μ-loop
+loop-again c =
+    let d = c .before .before in
+    let k = d .before .before .before .before .before in
+    let h = k .before .before .before .before .args in (
+      omega (arith, d .keep-pair .ensures .most),
+      d .keep-pair .kept .0 ∙ k .loop .inv .1,
+      d .keep-pair .ensures .pairs
+          ∙ gather-turn (spansFrom (h .cell .now) 0 (h .pairs)) (h .starts .now) (k .loop .i) _ _ (omega arith) (omega arith)
+          (d .before .choose-pair .ensures) (k .loop .inv .2),
+    )
+
+same-length : tie.Need-same-length Inv-loop μ-loop
+same-length c = search needs
+
+returns : tie.Need-returns Inv-loop μ-loop
+returns c =
+    let k = c .before in
+    let h = k .before .before .before .before .args in
+    record {
+      pairs = k .loop .inv .2 ∙ gather-done (spansFrom (h .cell .now) 0 (h .pairs)) (h .starts .now) (k .loop .i) (omega arith);
+      most = omega arith;
+    }
+
+pub gather-pairs-spec : {M : Type 1} → statement M
+gather-pairs-spec =
+    tie.close
+    (tie.spec
+    Inv-loop
+    μ-loop
+    loop-holds
+    sub-i
+    mul-choose-pair
+    shared-slice-read-choose-pair
+    choose-pair-requires
+    keep-pair-requires
+    loop-less
+    loop-again
+    same-length
+    returns)

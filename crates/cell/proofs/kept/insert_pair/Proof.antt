@@ -1,0 +1,116 @@
+-- `cell::insert_pair` meets its contract. The loop's invariant is `Carrying`: putting what is carried into what is left makes the whole.
+-- Assumes nothing.
+use mathlib.Core.Path.{ap, _∙_}
+use Prim.Native.Nat.{_*_, _-_}
+use native.Mathlib.Omega.{arith}
+use Rattle.detector.specs.Choice.{insert}
+use Rattle.cell.specs.Pairs.{spanOf, spansFrom, putSpan}
+use Rattle.cell.proofs.Insertion.{Carrying, carry-start, carry-later, carry-past, carry-met, carry-end}
+use borrow.Author.Needs.{needs}
+use Rattle.cell.proofs.kept.insert_pair.Statement.{statement}
+use Rattle.cell.proofs.kept.insert_pair.Tie as tie
+
+abbrev Inv-loop : tie.InvT-loop
+Inv-loop kept₀ count carried₀ i₀ kept carried i =
+    Carrying (insert (spanOf carried₀) (spansFrom kept₀ 0 count)) kept₀ count kept i (spanOf carried)
+
+abbrev μ-loop : tie.MeasureT-loop
+μ-loop kept₀ count carried₀ i₀ kept carried i = count - i
+
+loop-holds : tie.Need-loop-holds Inv-loop μ-loop
+loop-holds c = carry-start (c .before .args .kept .now) (c .before .args .count) (spanOf (c .before .args .pair)) (c .before .pre)
+
+mul-at : tie.Need-mul-at Inv-loop μ-loop
+mul-at c = search needs
+
+add-i : tie.Need-add-i Inv-loop μ-loop
+add-i c = search needs
+
+pair-at-requires : tie.Need-pair-at-requires Inv-loop μ-loop
+pair-at-requires c κs = search needs
+
+better-of-requires : tie.Need-better-of-requires Inv-loop μ-loop
+better-of-requires c κs = search needs
+
+put-pair-requires : tie.Need-put-pair-requires Inv-loop μ-loop
+put-pair-requires c κs = search needs
+
+same-length : tie.Need-same-length Inv-loop μ-loop
+same-length c = search needs
+
+returns : tie.Need-returns Inv-loop μ-loop
+returns c =
+    let d = c .before .before in
+    let f = d .before .before .before in
+    let g = f .before .before .before in
+    let k = g .before .before .before in
+    carry-met (k .loop .inv) (spanOf (g .pair-at .result)) _ (omega arith) (omega arith) (g .pair-at .ensures) (f .if1 .taken)
+    (d .put-pair .ensures ∙ ap (putSpan (k .loop .kept) (2 * k .loop .i)) (d .before .better-of .ensures))
+
+put-pair-requires-2 : tie.Need-put-pair-requires-2 Inv-loop μ-loop
+put-pair-requires-2 c κs = search needs
+
+loop-less : tie.Need-loop-less Inv-loop μ-loop
+loop-less c = search needs
+
+loop-again : tie.Need-loop-again Inv-loop μ-loop
+loop-again c =
+    let d = c .before .before in
+    let f = d .before .before in
+    let g = f .before .before .before .before .before .before in
+    let k = g .before .before .before in
+    carry-later (k .loop .inv) (spanOf (g .pair-at .result)) _ (omega arith) (omega arith) (g .pair-at .ensures) (f .if2 .taken)
+    (d .put-pair2 .ensures)
+
+loop-less-2 : tie.Need-loop-less-2 Inv-loop μ-loop
+loop-less-2 c = search needs
+
+loop-again-2 : tie.Need-loop-again-2 Inv-loop μ-loop
+loop-again-2 c =
+    let f = c .before .before .before in
+    let g = f .before .before .before in
+    let k = g .before .before .before in
+    carry-past (k .loop .inv) (spanOf (g .pair-at .result)) (omega arith) (g .pair-at .ensures) (f .if1 .left) (c .if2 .left)
+
+mul-put-pair : tie.Need-mul-put-pair Inv-loop μ-loop
+mul-put-pair c = search needs
+
+put-pair-requires-3 : tie.Need-put-pair-requires-3 Inv-loop μ-loop
+put-pair-requires-3 c κs = search needs
+
+add-result : tie.Need-add-result Inv-loop μ-loop
+add-result c = search needs
+
+same-length-2 : tie.Need-same-length-2 Inv-loop μ-loop
+same-length-2 c = search needs
+
+returns-2 : tie.Need-returns-2 Inv-loop μ-loop
+returns-2 c =
+    let d = c .before .before in
+    let k = d .before .before .before in
+    carry-end (k .loop .inv) _ (omega arith) (omega arith) (d .put-pair3 .ensures)
+
+pub insert-pair-spec : {M : Type 1} → statement M
+insert-pair-spec =
+    tie.close
+    (tie.spec
+    Inv-loop
+    μ-loop
+    loop-holds
+    mul-at
+    add-i
+    pair-at-requires
+    better-of-requires
+    put-pair-requires
+    same-length
+    returns
+    put-pair-requires-2
+    loop-less
+    loop-again
+    loop-less-2
+    loop-again-2
+    mul-put-pair
+    put-pair-requires-3
+    add-result
+    same-length-2
+    returns-2)

@@ -1,0 +1,42 @@
+-- `cell::both_step` meets its contract: left and right are renewed one after the other, and do not share words. Assumes nothing.
+use Rattle.cell.proofs.Steps.{both-stepped}
+use borrow.Author.Needs.{needs}
+use Rattle.cell.proofs.stepping.both_step.Statement.{statement}
+use Rattle.cell.proofs.stepping.both_step.Tie as tie
+
+renew-requires : tie.Need-renew-requires
+renew-requires c κs = search needs
+
+renew-requires-2 : tie.Need-renew-requires-2
+renew-requires-2 c κs = search needs
+
+lesser-requires : tie.Need-lesser-requires
+lesser-requires c κs = search needs
+
+lesser-requires-2 : tie.Need-lesser-requires-2
+lesser-requires-2 c κs = search needs
+
+larger-requires : tie.Need-larger-requires
+larger-requires c κs = search needs
+
+same-length : tie.Need-same-length
+same-length c = search needs
+
+returns : tie.Need-returns
+returns c =
+    λ ys.
+    let d = c .before .before .before .before .before in
+    let k = d .before .before .before .before in
+    both-stepped _ _ _ ys _ _ _ _ _ _ (k .before .before .before .pre .0) (k .renew .ensures) (d .renew2 .ensures) (cc)
+
+pub both-step-spec : {M : Type 1} → statement M
+both-step-spec =
+    tie.close
+    (tie.spec
+    renew-requires
+    renew-requires-2
+    lesser-requires
+    lesser-requires-2
+    larger-requires
+    same-length
+    returns)

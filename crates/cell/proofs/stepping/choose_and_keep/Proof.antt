@@ -1,0 +1,63 @@
+-- `cell::choose_and_keep` meets its contract: without possible starts latest is the only pair; else the answer is chosen from the cell as it was,
+-- and the kept pairs are gathered after it. Assumes nothing.
+use mathlib.Core.Path.{sym, ap, _∙_}
+use mathlib.Core.List.{List}
+use native.Mathlib.Omega.{arith}
+use borrow.Author.Needs.{needs}
+use Rattle.detector.specs.Memory.{Span}
+use Rattle.detector.specs.Choice.{choose}
+use Rattle.cell.proofs.KeptLaws.{kept-nothing, latest-chosen}
+use Rattle.cell.proofs.stepping.choose_and_keep.Statement.{statement}
+use Rattle.cell.proofs.stepping.choose_and_keep.Tie as tie
+
+slice-read-start-before : tie.Need-slice-read-start-before
+slice-read-start-before c = search needs
+
+slice-read-start-before-2 : tie.Need-slice-read-start-before-2
+slice-read-start-before-2 c = search needs
+
+start-before-requires : tie.Need-start-before-requires
+start-before-requires c κs = search needs
+
+returns : tie.Need-returns
+returns c =
+    let h = c .before .before .before .before .before .before in (
+      c .start-before .ensures ∙ latest-chosen (h .args .cell .now) (h .args .y) (omega arith),
+      kept-nothing (h .args .cell .now) (h .args .starts .now) (h .pre .1) (c .before .before .before .if1 .taken),
+    )
+
+pairs-in-requires : tie.Need-pairs-in-requires
+pairs-in-requires c κs = search needs
+
+choose-pair-requires : tie.Need-choose-pair-requires
+choose-pair-requires c κs = search needs
+
+gather-kept-requires : tie.Need-gather-kept-requires
+gather-kept-requires c κs = search needs
+
+same-length : tie.Need-same-length
+same-length c = search needs
+
+returns-2 : tie.Need-returns-2
+returns-2 c =
+    let k = c .before .before in
+    let f = k .before .before in
+    let g = f .before .before in
+    let h = g .before .before .before .before .before in (
+      ap (λ (q : Span). q .start) (f .choose-pair .ensures ∙ ap (λ (l : List Span). choose l (h .args .y)) (sym (g .pairs-in .ensures .same))),
+      k .gather-kept .ensures,
+    )
+
+pub choose-and-keep-spec : {M : Type 1} → statement M
+choose-and-keep-spec =
+    tie.close
+    (tie.spec
+    slice-read-start-before
+    slice-read-start-before-2
+    start-before-requires
+    returns
+    pairs-in-requires
+    choose-pair-requires
+    gather-kept-requires
+    same-length
+    returns-2)
