@@ -46,7 +46,7 @@ enum {
 
 /* The bytes of stack that a call takes at most. They are measured, and tests/stack.c fails if a call takes more. */
 enum {
-    MWS_STACK_TEXT_READ = 150000, /* mws_text_read: 144 for each bracket that is open at once, up to 1,024 of them */
+    MWS_STACK_TEXT_READ = 150000, /* mws_text_read: about 144 for each bracket that is open at once, at most 1,024 */
     MWS_STACK_TEXT_PRINT = 10000, /* mws_text_print */
     MWS_STACK = 4096              /* each of the other calls */
 };

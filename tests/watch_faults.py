@@ -57,6 +57,13 @@ def drained(fd, pause, limit=None):
     return got
 
 
+def ended(p):
+    """Waits until the program has ended, 30 seconds at most."""
+    last = time.monotonic() + 30
+    while p.poll() is None and time.monotonic() < last:
+        time.sleep(0.01)
+
+
 class Case:
     """A run of the program: its standard input, and how its output is read."""
 
@@ -65,8 +72,9 @@ class Case:
         self.given.write(given)
         self.given.flush()
 
-    def run(self, stdin=None, stdout=None, pause=0, limit=None, feed=None, **options):
-        """What was written, what stands on standard error, and the exit status (negative for a signal)."""
+    def run(self, stdin=None, stdout=None, pause=0, limit=None, late=False, feed=None, **options):
+        """What was written, what stands on standard error, and the exit status (negative for a signal). A late reader
+        begins when the program has ended; feed runs beside it."""
         if stdin is None:
             self.given.seek(0)
             stdin = self.given
@@ -79,6 +87,8 @@ class Case:
         feeder = threading.Thread(target=feed, args=(p,)) if feed else None
         if feeder:
             feeder.start()
+        if late:
+            ended(p)
         got = drained(source, pause, limit)
         error = p.stderr.read()
         p.stderr.close()
@@ -92,7 +102,8 @@ failures = 0
 
 
 def judged(name, ran, wanted, fault, signalled=None):
-    """Judges what a run wrote, where a 'read' or a 'write' must have failed (or None), or a signal ended the program."""
+    """Judges what a run wrote, where a 'read' or a 'write' must have failed, 'any' may have failed or none (None), or a
+    signal ended the program."""
     global failures
     got, error, status = ran
     faults = []
@@ -110,7 +121,7 @@ def judged(name, ran, wanted, fault, signalled=None):
             faults.append('ended by signal %d' % -status)
         if got != wanted and not said:
             faults.append('%d of %d bytes came out, and no fault was reported' % (len(got), len(wanted)))
-        if fault and not (said and said.group(1).decode() == fault):
+        if fault in ('read', 'write') and not (said and said.group(1).decode() == fault):
             faults.append('no %s fault was reported: %r' % (fault, error))
         if not fault and error:
             faults.append('a fault was reported where there was none: %r' % error)
@@ -120,8 +131,8 @@ def judged(name, ran, wanted, fault, signalled=None):
 
 
 def pausing(case, data, places, non_blocking=True):
-    """Runs the program on a pipe whose writer pauses at each of these places: a while, or where the pipe is non-blocking,
-    until the program is gone."""
+    """Runs the program on a pipe whose writer pauses at each of these places: for a moment, or where the pipe is
+    non-blocking until the program has ended, as it must."""
     source, sink = os.pipe()
     if non_blocking:
         unblocked(source)
@@ -133,11 +144,9 @@ def pausing(case, data, places, non_blocking=True):
             for place in places + [len(data)]:
                 while at < place:
                     at += os.write(sink, data[at:place])
-                if non_blocking:
-                    p.wait(timeout=20)
-                else:
-                    time.sleep(0.3)
-        except (BrokenPipeError, subprocess.TimeoutExpired):
+                if place < len(data):
+                    ended(p) if non_blocking else time.sleep(0.1)
+        except BrokenPipeError:
             pass
         os.close(sink)
     return case.run(stdin=source, feed=feed)
@@ -151,7 +160,8 @@ def main():
 
     judged('a plain run', case.run(), wanted, None)
     judged('a slow reader', case.run(pause=0.001), wanted, None)
-    judged('a slow reader of a non-blocking pipe', case.run(stdout='unblocked', pause=0.003), wanted, 'write')
+    judged('a slow reader of a non-blocking pipe', case.run(stdout='unblocked', pause=0.003), wanted, 'any')
+    judged('a late reader of a non-blocking pipe', case.run(stdout='unblocked', late=True), wanted, 'write')
     judged('a reader of a non-blocking pipe', brief.run(stdout='unblocked'), short_wanted, None)
 
     judged('a reader that leaves', case.run(limit=10000), wanted, 'write', signalled=signal.SIGPIPE)

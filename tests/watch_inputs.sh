@@ -1,5 +1,5 @@
 #!/usr/bin/env bash
-# Whole inputs at the edges, given to the watch program (rt check watch builds it): where lines end, and how long they may be.
+# Runs the watch program (`rt check watch` builds it) on whole inputs at the edges: where lines end, and how long they may be.
 cd "$(dirname "${BASH_SOURCE[0]}")/.."
 failed=0
 same() {

@@ -1,10 +1,11 @@
 #!/usr/bin/env python3
-"""Gives the watch program (`rt check watch` builds it) random patterns and records, and compares what it writes with the unrestricted rules.
+"""Runs the watch program (`rt check watch` builds it) on random patterns and records, and compares its output with the rules.
 
     python3 tests/watch_random.py [CASES]
 
-The rules are those of make_vectors.py: brute force over all instances. Some records have a line that is refused, by document 01's table. Every
-fourth input comes through the pipe in small pieces, so that chunks end anywhere in a line. Every eighth record is longer than the program takes at once.
+The rules are those of make_vectors.py: brute force over all instances. Some records have a line that is refused, by
+document 01's table. Every fourth input comes through the pipe in small pieces, so that chunks end anywhere in a line.
+Every eighth record is longer than the program takes at once.
 """
 import random
 import subprocess

@@ -4,6 +4,7 @@ mod files;
 mod runs;
 mod sets;
 mod show;
+mod tallies;
 mod texts;
 mod watches;
 
@@ -12,6 +13,7 @@ fn main() {
     texts::run();
     watches::run();
     sets::run();
+    tallies::run();
     files::run();
     runs::run();
 }
