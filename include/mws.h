@@ -36,7 +36,8 @@ enum {
     MWS_BODY = 7,       /* a body breaks a rule; place: the body's index, 0 for a lone body; MWS_ENTRY: the entry */
     MWS_ROOM = 8,       /* a slice to write in is too short; place: the length needed */
     MWS_STATE = 9,      /* a state is not in form; place: its index, 0 for a lone state */
-    MWS_RANGE = 10,     /* a tick or a window's end over 4,294,967,295, or a window that ends before it starts */
+    MWS_RANGE = 10,     /* a tick or a window's end over 4,294,967,295, or a window that ends before it starts; place: in a
+                         * feed the tick's index */
     MWS_LATE = 11,      /* a tick below the next one allowed; place: in a set the state's index, in a feed the tick's */
     MWS_RECORD = 12,    /* over 64 event words; in a feed, not as many events as ticks */
     MWS_FULL = 13,      /* the tally would pass 64 bits */
@@ -95,7 +96,7 @@ uint64_t mws_watch_tick(uint64_t *state, size_t words, uint64_t tick, uint32_t e
 
 /* Takes many ticks at once, all or none: ticks[i] with events[i] gives answers[i], as mws_watch_tick does. The state is
  * judged only once. Refusals: 12 if n is not m; 8 if there is room for fewer than n answers; 9; and then the first faulty
- * tick decides: 10 (place 0) if it is over 4,294,967,295, else 11 (place: its index in ticks) if it is below the next tick
+ * tick decides, its index in ticks being the place: 10 if it is over 4,294,967,295, else 11, as it is below the next tick
  * allowed. */
 uint64_t mws_watch_feed(uint64_t *state, size_t words, const uint64_t *ticks, size_t n, const uint32_t *events, size_t m,
                         uint64_t *answers, size_t room);

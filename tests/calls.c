@@ -113,7 +113,7 @@ static void faulty_feeds(void) {
     HOLDS(is(mws_watch_feed(state, 11, first_late, 3, events, 3, answers, 3), MWS_LATE, 0));
     HOLDS(is(mws_watch_feed(state, 11, last_late, 3, events, 3, answers, 3), MWS_LATE, 2));
     HOLDS(is(mws_watch_feed(state, 11, first_over, 3, events, 3, answers, 3), MWS_RANGE, 0));
-    HOLDS(is(mws_watch_feed(state, 11, last_over, 3, events, 3, answers, 3), MWS_RANGE, 0));
+    HOLDS(is(mws_watch_feed(state, 11, last_over, 3, events, 3, answers, 3), MWS_RANGE, 2));
     HOLDS(is(mws_watch_feed(state, 11, last_over, 3, events, 2, answers, 2), MWS_RECORD, 0));
     HOLDS(is(mws_watch_feed(state, 11, last_over, 3, events, 3, answers, 2), MWS_ROOM, 3));
     HOLDS(memcmp(before, state, sizeof state) == 0 && answers[0] == 7 && answers[1] == 7 && answers[2] == 7);

@@ -24,8 +24,8 @@ pub enum Refusal {
     Room { needed: u32 },
     /// A state is not in form; a lone state has index 0.
     State { index: u32 },
-    /// A tick or a window's end over 4,294,967,295, or a window that ends before it starts.
-    Range,
+    /// A tick or a window's end over 4,294,967,295, or a window that ends before it starts; of a feed the tick's index, else 0.
+    Range { index: u32 },
     /// A tick below the next allowed; of a set the state's index, of a feed the tick's, else 0.
     Late { index: u32 },
     /// More than 64 event words, or a feed with not as many events as ticks.
@@ -53,7 +53,7 @@ impl Refusal {
             Refusal::Body { .. } => 7,
             Refusal::Room { .. } => 8,
             Refusal::State { .. } => 9,
-            Refusal::Range => 10,
+            Refusal::Range { .. } => 10,
             Refusal::Late { .. } => 11,
             Refusal::Record => 12,
             Refusal::Full => 13,
@@ -71,6 +71,7 @@ impl Refusal {
             Refusal::Entry { index }
             | Refusal::Body { index, .. }
             | Refusal::State { index }
+            | Refusal::Range { index }
             | Refusal::Late { index } => index,
             _ => 0,
         }
@@ -90,7 +91,7 @@ impl Refusal {
             7 => Refusal::Body { index: place, entry: (status >> 40) as u8 },
             8 => Refusal::Room { needed: place },
             9 => Refusal::State { index: place },
-            10 => Refusal::Range,
+            10 => Refusal::Range { index: place },
             11 => Refusal::Late { index: place },
             12 => Refusal::Record,
             13 => Refusal::Full,

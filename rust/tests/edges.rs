@@ -83,7 +83,7 @@ fn ticks_at_the_limit() {
     watch_open(&body("A").unwrap(), &mut state).unwrap();
     assert_eq!(watch_tick(&mut state, 5, 1), Ok(Some(5)));
     assert_eq!(watch_tick(&mut state, 5, 1), Err(Refusal::Late { index: 0 }));
-    assert_eq!(watch_tick(&mut state, LAST_TICK + 1, 1), Err(Refusal::Range));
+    assert_eq!(watch_tick(&mut state, LAST_TICK + 1, 1), Err(Refusal::Range { index: 0 }));
     assert_eq!(watch_tick(&mut state, LAST_TICK, 1), Ok(Some(LAST_TICK)));
 }
 

@@ -37,7 +37,7 @@ pub fn tick(words: &mut [u64], count: u64, tick: u64, events: u32, answers: &mut
         return Err(Refusal::Room { needed: count as u32 });
     }
     if tick > u32::MAX.into() {
-        return Err(Refusal::Range);
+        return Err(Refusal::Range { index: 0 });
     }
     let mut states = read(words, count as u32)?;
     if let Some(index) = states.iter().position(|state| tick < state.next()) {

@@ -38,7 +38,7 @@ pub fn open(body: &[u8], state: &mut [u64]) -> Result<(), Refusal> {
 
 pub fn tick(words: &mut [u64], tick: u64, events: u32) -> Result<Option<u64>, Refusal> {
     if tick > LAST_TICK {
-        return Err(Refusal::Range);
+        return Err(Refusal::Range { index: 0 });
     }
     let mut state = State::read(words).ok_or(Refusal::State { index: 0 })?;
     if tick < state.next {
@@ -60,7 +60,7 @@ pub fn feed(words: &mut [u64], ticks: &[u64], events: &[u32], answers: &mut [u64
     let mut told = Vec::new();
     for (index, (&tick, &events)) in ticks.iter().zip(events).enumerate() {
         if tick > LAST_TICK {
-            return Err(Refusal::Range);
+            return Err(Refusal::Range { index: index as u32 });
         }
         if tick < state.next {
             return Err(Refusal::Late { index: index as u32 });

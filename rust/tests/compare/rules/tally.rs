@@ -3,7 +3,7 @@ use mws::{Refusal, Tally};
 
 pub fn add(tally: &mut Tally, start: u64, end: u64) -> Result<(), Refusal> {
     if end < start || end > u32::MAX.into() {
-        return Err(Refusal::Range);
+        return Err(Refusal::Range { index: 0 });
     }
     let windows = u128::from(tally.windows) + 1;
     let ticks = u128::from(tally.ticks) + u128::from(end) - u128::from(start) + 1;
