@@ -1,4 +1,4 @@
-/* Every call of mws.h: accepted, refused, and with empty slices as null pointers; with what document 01 says of each.
+/* Every call of mws.h: accepted, refused, and with empty slices as null pointers; with what docs/RULES.md says of each.
  * Prints how many facts hold, and each one that does not. */
 #include <stdio.h>
 #include <string.h>

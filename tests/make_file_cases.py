@@ -5,7 +5,7 @@
 
 must find no difference; tests/run does that. The lines say how a pattern file is judged when it is cut at each length,
 and when each of its bytes has each other value: `number.place.entry` for each value, 0.0.0 where nothing is refused.
-This is an independent implementation of document 01's rules ("Pattern file: contents, then bodies", and the table of
+This is an independent implementation of docs/RULES.md ("Pattern files", and the table of
 refusals). To change a case, change this script and the program `cases`, and replace those lines of stdout.
 """
 

@@ -3,7 +3,7 @@
 
     python3 tests/make_vectors.py crates/replay/stdin crates/replay/stdout
 
-The input has random patterns and records; the output is what the rules of document 01 ("The algebra") say of each, by
+The input has random patterns and records; the output is what the rules of docs/RULES.md ("The algebra") say of each, by
 brute force over all instances, as sets of (start, end) pairs. This script shares nothing with the code under test.
 tests/run makes both files again and compares them with the stored ones.
 

@@ -4,7 +4,7 @@
     python3 tests/watch_random.py [CASES]
 
 The rules are those of make_vectors.py: brute force over all instances. Some records have a line that is refused, by
-document 01's table. Every fourth input comes through the pipe in small pieces, so that chunks end anywhere in a line.
+the table of docs/RULES.md. Every fourth input comes through the pipe in small pieces, so that chunks end anywhere in a line.
 Every eighth record is longer than the program takes at once.
 """
 import random

@@ -1,4 +1,4 @@
--- The starred cases of document 01, "Cases at the edges", as one list under one claim: each holds by the unrestricted rules.
+-- The examples of docs/RULES.md ("Examples") as one list under one claim: each holds by the unrestricted rules.
 -- Assumes nothing: these are definitions.
 use mathlib.Core.Path.{_≡_}
 use mathlib.Core.Logic.{_↔_}

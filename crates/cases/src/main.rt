@@ -1,4 +1,4 @@
-// The cases of document 01 that are run. Each prints its name, then a refusal's number, place and entry, 0 0 0 where nothing is refused.
+// The cases at the edges that are run (docs/RULES.md). Each prints its name, then a refusal's number, place and entry: 0 0 0 if it is accepted.
 mod bodies;
 mod files;
 mod runs;

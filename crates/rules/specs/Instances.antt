@@ -1,4 +1,4 @@
--- The unrestricted rules: which instances a pattern has in a record (document 01, "The algebra"). Assumes nothing: these are definitions.
+-- The unrestricted rules: which instances a pattern has in a record (docs/RULES.md, "The algebra"). Assumes nothing: these are definitions.
 use mathlib.Core.Path.{_≡_}
 use mathlib.Core.Logic.{_⊎_}
 use Prim.Native.Nat.{ℕ, suc, _-_, _≤_, _<_, min, max}

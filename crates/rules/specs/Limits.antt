@@ -1,4 +1,4 @@
--- The limits of document 01, each by a name. Assumes nothing: these are definitions.
+-- The limits of docs/RULES.md, each by a name. Assumes nothing: these are definitions.
 use Prim.Native.Nat.{ℕ, _^_}
 
 -- event types: 0 to 31

@@ -1,4 +1,4 @@
--- The patterns of the algebra, as trees (document 01, "The algebra"). Assumes nothing: these are definitions.
+-- The patterns of the algebra, as trees (docs/RULES.md, "The algebra"). Assumes nothing: these are definitions.
 use Prim.Native.Nat.{ℕ, _+_, _<_}
 use Rattle.rules.specs.declared.Op.{Op}
 use Rattle.rules.specs.Limits.{letters}
