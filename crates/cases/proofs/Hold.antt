@@ -1,4 +1,4 @@
--- All starred cases hold: those on windows by one test that computes, those on rows as proved. Assumes nothing.
+-- All examples hold: those on windows by one test that computes, those on rows as proved. Assumes nothing.
 use mathlib.Core.Path.{_≡_, refl}
 use mathlib.Core.Bool.{Bool, true, false, cond}
 use mathlib.Core.List.{List, [], _∷_}
