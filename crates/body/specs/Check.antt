@@ -7,6 +7,7 @@ use mathlib.Core.Option.{Option, none, some}
 use lib.Dec.{leb, eqb}
 use lib.ListN.{length}
 use Rattle.rules.specs.Limits.{mostEntries}
+use Rattle.refusal.specs.declared.Refusal.{Refusal}
 use Rattle.refusal.specs.declared.Refusal.the-variants.{Size}
 use Rattle.refusal.specs.Table.{brokenAt}
 use Rattle.body.specs.declared.Entry.{Entry}
@@ -41,6 +42,11 @@ sized width n = cond (eqb (n % (width + 1)) 0) (cond (leb (width + 1) n) (leb n 
 abbrev pub verdict : ℕ → Option ℕ → BodyCheck
 verdict index none = Sound
 verdict index (some entry) = Refused (brokenAt index entry)
+
+-- what follows a check: what is made of its refusal, or the answer for a sound body
+abbrev pub onCheck : {A : Type 0} → BodyCheck → (Refusal → A) → A → A
+onCheck Sound refuse answer = answer
+onCheck (Refused r) refuse answer = refuse r
 
 -- the answer for a lone body: Size, then Body
 unfoldable pub checkOf : ℕ → List ℕ → BodyCheck

@@ -24,8 +24,8 @@ use Rattle.file.specs.declared.Finding.the-variants.{Found, Broken, Refu
 use Rattle.refusal.specs.declared.Refusal.{Refusal}
 use Rattle.refusal.specs.declared.Refusal.the-variants.{Absent}
 use Rattle.file.specs.Contents.{named, bodyBytes, nameBytes, contentsBytes, bodiesAt, total}
-use Rattle.file.specs.Check.{onBody, brokenBody, countsIn, brokenContent, checkOf}
-use Rattle.file.specs.Lookup.{same, seek, placed, inFile, ifSound, findingOf, fileFrom, partOf}
+use Rattle.file.specs.Check.{onFile, onBody, brokenBody, countsIn, brokenContent, checkOf}
+use Rattle.file.specs.Lookup.{same, seek, placed, inFile, findingOf, fileFrom, partOf}
 use Rattle.file.specs.Claim.{BrokenBy}
 use Rattle.file.proofs.Order.{same-true}
 use Rattle.file.proofs.Checks.{entry-kept, content-kept, contents-first, rest-sound}
@@ -100,7 +100,7 @@ placed-found (count ∷ f) name from long p s =
 
 -- what a lookup found is what the search in one of the sound files found
 found-by : (site fleet : FileCheck) (a b : Place) (whose : Whose) (from long : ℕ)
-    → ifSound site Site (ifSound fleet Fleet (inFile a Site (inFile b Fleet (Refused Absent)))) ≡ Found whose from long
+    → onFile site (Broken Site) (onFile fleet (Broken Fleet) (inFile a Site (inFile b Fleet (Refused Absent)))) ≡ Found whose from long
     → (P : Whose → ℕ → ℕ → Type 0)
     → ((from long : ℕ) → site ≡ Checks.Sound → a ≡ At from long → P Site from long)
     → ((from long : ℕ) → fleet ≡ Checks.Sound → b ≡ At from long → P Fleet from long)
@@ -128,7 +128,7 @@ finding-found site fleet name whose from long p =
 
 -- a broken file is one that the check refused
 pub broken-by : (site fleet : FileCheck) (a b : Place) (whose : Whose) (r : Refusal)
-    → ifSound site Site (ifSound fleet Fleet (inFile a Site (inFile b Fleet (Refused Absent)))) ≡ Broken whose r
+    → onFile site (Broken Site) (onFile fleet (Broken Fleet) (inFile a Site (inFile b Fleet (Refused Absent)))) ≡ Broken whose r
     → BrokenBy site fleet whose r
 broken-by (Checks.Refused s) fleet a b Site r p = cc
 broken-by (Checks.Refused s) fleet a b Fleet r p = impossible cc

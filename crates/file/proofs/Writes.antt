@@ -20,9 +20,9 @@ use Rattle.file.specs.declared.FileCheck.{FileCheck}
 use Rattle.file.specs.declared.FileCheck.the-variants as Checks
 use Rattle.file.specs.declared.Writing.the-variants.{Written, Refused}
 use Rattle.file.specs.Contents.{bodyBytes, nameBytes, contentsBytes, bodiesAt, contentOf, contents, fileOf}
-use Rattle.file.specs.Check.{partsCheck}
+use Rattle.file.specs.Check.{onFile, partsCheck}
 use Rattle.file.specs.Ready.{Few}
-use Rattle.file.specs.Write.{ifSound, inRoom, writingOf, Wrote}
+use Rattle.file.specs.Write.{inRoom, writingOf, Wrote}
 use Rattle.file.specs.Claim.{PartsOf}
 use Rattle.file.proofs.Checks.{parts-sound}
 
@@ -172,7 +172,7 @@ module _ (names counts bodies old : List ℕ) where
     }
 
 -- if the writer says that it wrote, its parts are accepted and the bytes are those of the file
-written-by : (c : FileCheck) (needed room n : ℕ) → Written n ≡ ifSound c (inRoom needed room) → (c ≡ Checks.Sound) × (needed ≡ n)
+written-by : (c : FileCheck) (needed room n : ℕ) → Written n ≡ onFile c Refused (inRoom needed room) → (c ≡ Checks.Sound) × (needed ≡ n)
 written-by (Checks.Refused r) needed room n p = impossible cc
 written-by Checks.Sound needed room n p = go (leb needed room) p
   where
@@ -190,7 +190,7 @@ wrote-parts names counts bodies old new n w =
 
 -- what the writer refuses
 pub refused-by : (c : FileCheck) (needed room : ℕ) (r : Refusal)
-    → ifSound c (inRoom needed room) ≡ Refused r ↔ ((c ≡ Checks.Refused r) ⊎ ((c ≡ Checks.Sound) × (room < needed) × (r ≡ Room needed)))
+    → onFile c Refused (inRoom needed room) ≡ Refused r ↔ ((c ≡ Checks.Refused r) ⊎ ((c ≡ Checks.Sound) × (room < needed) × (r ≡ Room needed)))
 refused-by (Checks.Refused s) needed room r = (
   λ p. inl cc,
   ⊎-elim (λ q. let e : s ≡ r = cc in ap Refused e) (λ q. let h = q .0 in impossible cc),

@@ -7,6 +7,7 @@ use mathlib.Core.Option.{Option, none, some}
 use lib.Dec.{leb, eqb}
 use lib.ListN.{length, getD, take, drop}
 use Rattle.rules.specs.Limits.{argumentBytes, mostEntries, mostPatterns}
+use Rattle.refusal.specs.declared.Refusal.{Refusal}
 use Rattle.refusal.specs.declared.Refusal.the-variants.{Count, Entry, Size}
 use Rattle.refusal.specs.Table.{brokenAt}
 use Rattle.body.specs.Bytes.{valueAt}
@@ -15,6 +16,11 @@ use Rattle.body.specs.Check.{scan}
 use Rattle.file.specs.declared.FileCheck.{FileCheck}
 use Rattle.file.specs.declared.FileCheck.the-variants.{Sound, Refused}
 use Rattle.file.specs.Contents.{named, below, bodyBytes, nameBytes, contentsBytes, bodiesAt, total}
+
+-- what follows a check: what is made of its refusal, or the answer for a sound file
+abbrev pub onFile : {A : Type 0} → FileCheck → (Refusal → A) → A → A
+onFile Sound refuse answer = answer
+onFile (Refused r) refuse answer = refuse r
 
 -- whether a name stands after the name before it (no bytes before the first), with 1 to 63 entries
 unfoldable pub entryKept : List ℕ → List ℕ → ℕ → Bool

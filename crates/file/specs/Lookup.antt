@@ -8,8 +8,6 @@ use lib.Dec.{eqb}
 use lib.ListN.{getD, take, drop}
 use Rattle.refusal.specs.declared.Refusal.the-variants.{Absent}
 use Rattle.body.specs.Bytes.{valueAt}
-use Rattle.file.specs.declared.FileCheck.{FileCheck}
-use Rattle.file.specs.declared.FileCheck.the-variants as Checks
 use Rattle.file.specs.declared.Whose.{Whose}
 use Rattle.file.specs.declared.Whose.the-variants.{Site, Fleet}
 use Rattle.file.specs.declared.Place.{Place}
@@ -17,7 +15,7 @@ use Rattle.file.specs.declared.Place.the-variants.{At, Nowhere}
 use Rattle.file.specs.declared.Finding.{Finding}
 use Rattle.file.specs.declared.Finding.the-variants.{Found, Broken, Refused}
 use Rattle.file.specs.Contents.{bodyBytes, nameBytes, contentsBytes}
-use Rattle.file.specs.Check.{checkOf}
+use Rattle.file.specs.Check.{onFile, checkOf}
 
 -- whether two names have the same length and the same bytes
 unfoldable pub same : List ℕ → List ℕ → Bool
@@ -40,14 +38,10 @@ abbrev pub inFile : Place → Whose → Finding → Finding
 inFile Nowhere whose otherwise = otherwise
 inFile (At from long) whose otherwise = Found whose from long
 
-abbrev pub ifSound : FileCheck → Whose → Finding → Finding
-ifSound Checks.Sound whose answer = answer
-ifSound (Checks.Refused r) whose answer = Broken whose r
-
 -- the answer of a lookup: a file that is refused, the site file first; else the body in the site file, else that in the fleet file, else Absent
 unfoldable pub findingOf : List ℕ → List ℕ → List ℕ → Finding
 findingOf site fleet name =
-    ifSound (checkOf site) Site (ifSound (checkOf fleet) Fleet (inFile (placed site name) Site (inFile (placed fleet name) Fleet (Refused Absent))))
+    onFile (checkOf site) (Broken Site) (onFile (checkOf fleet) (Broken Fleet) (inFile (placed site name) Site (inFile (placed fleet name) Fleet (Refused Absent))))
 
 abbrev pub fileFrom : Whose → List ℕ → List ℕ → List ℕ
 fileFrom Site site fleet = site

@@ -7,16 +7,10 @@ use mathlib.Core.List.{List, _++_}
 use lib.Dec.{leb}
 use lib.ListN.{length, drop}
 use Rattle.refusal.specs.declared.Refusal.the-variants.{Room}
-use Rattle.file.specs.declared.FileCheck.{FileCheck}
-use Rattle.file.specs.declared.FileCheck.the-variants as Checks
 use Rattle.file.specs.declared.Writing.{Writing}
 use Rattle.file.specs.declared.Writing.the-variants.{Written, Refused}
 use Rattle.file.specs.Contents.{fileOf}
-use Rattle.file.specs.Check.{partsCheck}
-
-abbrev pub ifSound : FileCheck → Writing → Writing
-ifSound Checks.Sound answer = answer
-ifSound (Checks.Refused r) answer = Refused r
+use Rattle.file.specs.Check.{onFile, partsCheck}
 
 -- the number of bytes written, or Room with the length needed
 abbrev pub inRoom : ℕ → ℕ → Writing
@@ -24,7 +18,7 @@ inRoom needed room = cond (leb needed room) (Written needed) (Refused (Room need
 
 -- the answer: the refusal of the parts, then Room with the length needed, else the number of bytes written
 unfoldable pub writingOf : List ℕ → List ℕ → List ℕ → ℕ → Writing
-writingOf names counts bodies room = ifSound (partsCheck names counts bodies) (inRoom (length (fileOf names counts bodies)) room)
+writingOf names counts bodies room = onFile (partsCheck names counts bodies) Refused (inRoom (length (fileOf names counts bodies)) room)
 
 -- the slice afterwards: the file and then what stood there before, or, after a refusal, all as it was
 abbrev pub after : Writing → List ℕ → List ℕ → List ℕ

@@ -12,7 +12,6 @@ use Rattle.text.specs.declared.Reading.{Reading}
 use Rattle.text.specs.declared.Reading.the-variants as Reads
 use Rattle.text.specs.declared.Printing.{Printing}
 use Rattle.text.specs.declared.Printing.the-variants as Prints
-use Rattle.text.specs.Answer.{ReadingOf, PrintingOf}
 use Rattle.file.specs.declared.FileCheck.{FileCheck}
 use Rattle.file.specs.declared.FileCheck.the-variants as Files
 use Rattle.file.specs.declared.Writing.{Writing}
@@ -21,11 +20,9 @@ use Rattle.file.specs.declared.Whose.{Whose}
 use Rattle.file.specs.declared.Whose.the-variants.{Site, Fleet}
 use Rattle.file.specs.declared.Finding.{Finding}
 use Rattle.file.specs.declared.Finding.the-variants as Finds
-use Rattle.file.specs.Write.{Wrote}
 use Rattle.plain.specs.declared.Evaluation.{Evaluation}
 use Rattle.plain.specs.declared.Evaluation.the-variants as Evaluates
 use Rattle.plain.specs.declared.Start.{Start}
-use Rattle.plain.specs.Answer.{Answers}
 use Rattle.plain.specs.Row.{IsLatest}
 use Rattle.plain.specs.Claim.{startNumber}
 use Rattle.watcher.specs.declared.Needed.{Needed}
@@ -34,14 +31,10 @@ use Rattle.watcher.specs.declared.Opening.{Opening}
 use Rattle.watcher.specs.declared.Opening.the-variants as Opens
 use Rattle.watcher.specs.declared.Ticking.{Ticking}
 use Rattle.watcher.specs.declared.Ticking.the-variants as Ticks
-use Rattle.watcher.specs.Answer.{RoomAnswers, OpenAnswers, TickAnswers}
 use Rattle.watcher.specs.declared.Feeding.{Feeding}
 use Rattle.watcher.specs.declared.Feeding.the-variants as Feeds
-use Rattle.watcher.specs.Feed.{FeedAnswers}
 use Rattle.watcher.specs.declared.set.SetTicking.{SetTicking}
 use Rattle.watcher.specs.declared.set.SetTicking.the-variants as Sets
-use Rattle.watcher.specs.Set.{SetAnswers}
-use Rattle.watcher.specs.SetFile.{SetRoomAnswers, SetOpenAnswers}
 use Rattle.tally.specs.declared.Tally.{Tally}
 use Rattle.tally.specs.Tallied.{addedTo, statusOf as tallyStatus, after}
 

@@ -24,14 +24,14 @@ use Rattle.detector.specs.Run.{run}
 use Rattle.detector.proofs.Theorem.{always}
 use Rattle.body.specs.declared.BodyCheck.{BodyCheck}
 use Rattle.body.specs.declared.BodyCheck.the-variants as Checked
-use Rattle.body.specs.Check.{checkOf}
+use Rattle.body.specs.Check.{onCheck, checkOf}
 use Rattle.body.proofs.Bodies.{sound-pattern}
 use Rattle.body.proofs.Trees.{size-pos}
 use Rattle.plain.specs.declared.Start.the-variants.{Nowhere, At}
 use Rattle.plain.specs.declared.Evaluation.{Evaluation}
 use Rattle.plain.specs.declared.Evaluation.the-variants.{Evaluated, Refused}
 use Rattle.plain.specs.Rows.{Shown, rowsOf, worded, parts, Written}
-use Rattle.plain.specs.Answer.{evaluationOf, ifSound, Answers}
+use Rattle.plain.specs.Answer.{evaluationOf, Answers}
 use Rattle.plain.specs.Claim.{ShownExactly, Words, OneAnswer, OneStart, startNumber, LatestOfRow, Count, CountsInstances, historyFrom, AgreesWithDetector}
 use Rattle.plain.proofs.Fills.{row-at}
 use Rattle.plain.proofs.Sets.{latest-le}
@@ -137,7 +137,7 @@ one-written r es old new new′ w w′ a a′ =
     at i (no h) = a .kept i (omega arith) ∙ sym (a′ .kept i (omega arith))
 
 -- a body that was evaluated is sound
-if-evaluated : (c : BodyCheck) (x : Evaluation) → ifSound c x ≡ Evaluated → c ≡ Checked.Sound
+if-evaluated : (c : BodyCheck) (x : Evaluation) → onCheck c Refused x ≡ Evaluated → c ≡ Checked.Sound
 if-evaluated Checked.Sound x p = refl
 if-evaluated (Checked.Refused r) x p = impossible cc
 

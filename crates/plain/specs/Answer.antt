@@ -9,9 +9,8 @@ use lib.ListN.{length}
 use Rattle.rules.specs.Limits.{argumentBytes, mostWords}
 use Rattle.rules.specs.Pattern.{Pattern}
 use Rattle.refusal.specs.declared.Refusal.the-variants.{Room, Record}
-use Rattle.body.specs.declared.BodyCheck.{BodyCheck}
 use Rattle.body.specs.declared.BodyCheck.the-variants as Checked
-use Rattle.body.specs.Check.{checkOf}
+use Rattle.body.specs.Check.{onCheck, checkOf}
 use Rattle.body.specs.Claim.{BodyOf}
 use Rattle.plain.specs.declared.Evaluation.{Evaluation}
 use Rattle.plain.specs.declared.Evaluation.the-variants.{Evaluated, Refused}
@@ -22,14 +21,10 @@ abbrev pub rowsNeeded : List ℕ → ℕ
 rowsNeeded b = length b / (argumentBytes + 1) * mostWords
 
 -- the body's refusal, if it has one, goes first
-abbrev pub ifSound : BodyCheck → Evaluation → Evaluation
-ifSound Checked.Sound answer = answer
-ifSound (Checked.Refused r) answer = Refused r
-
 -- the answer: the body's refusal, then Record, then Room with the rows needed
 unfoldable pub evaluationOf : List ℕ → ℕ → ℕ → Evaluation
 evaluationOf b words room =
-    ifSound (checkOf argumentBytes b)
+    onCheck (checkOf argumentBytes b) Refused
     (cond (ltb mostWords words) (Refused Record) (cond (ltb room (rowsNeeded b)) (Refused (Room (rowsNeeded b))) Evaluated))
 
 -- the rows afterwards: each entry's rows show its instances, or a refusal changes nothing
