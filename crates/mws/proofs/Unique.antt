@@ -13,7 +13,7 @@ use Rattle.watcher.specs.declared.Needed.{Needed}
 use Rattle.watcher.specs.declared.Ticking.{Ticking}
 use Rattle.watcher.proofs.Theorem.{one-tick, one-opening, one-room}
 use Rattle.watcher.proofs.Fed.{one-feeding}
-use Rattle.watcher.proofs.SetTheorem.{one-set-tick, one-set-opening, one-set-room}
+use Rattle.set.proofs.Theorem.{one-set-tick, one-set-opening, one-set-room}
 use Rattle.mws.specs.Status.{readStatus, readBytes, printStatus, printBytes, plainStatus, roomStatus, roomWords, openStatus}
 use Rattle.mws.specs.Status.{tickStatus, tickAnswer, writeStatus, writeBytes, feedStatus, setStatus}
 use Rattle.mws.specs.Claim.{OneTextRead, OneTextPrinted, OnePlainDone, OneRowLatest, OneRoomTold, OneStateOpened, OneStateTicked}

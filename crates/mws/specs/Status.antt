@@ -38,10 +38,10 @@ use Rattle.watcher.specs.Answer.{RoomAnswers, OpenAnswers, TickAnswers}
 use Rattle.watcher.specs.declared.Feeding.{Feeding}
 use Rattle.watcher.specs.declared.Feeding.the-variants as Feeds
 use Rattle.watcher.specs.Feed.{FeedAnswers}
-use Rattle.watcher.specs.declared.set.SetTicking.{SetTicking}
-use Rattle.watcher.specs.declared.set.SetTicking.the-variants as Sets
-use Rattle.watcher.specs.Set.{SetAnswers}
-use Rattle.watcher.specs.SetFile.{SetRoomAnswers, SetOpenAnswers}
+use Rattle.set.specs.declared.SetTicking.{SetTicking}
+use Rattle.set.specs.declared.SetTicking.the-variants as Sets
+use Rattle.set.specs.Set.{SetAnswers}
+use Rattle.set.specs.File.{SetRoomAnswers, SetOpenAnswers}
 use Rattle.tally.specs.declared.Tally.{Tally}
 use Rattle.tally.specs.Tallied.{addedTo, statusOf, after}
 

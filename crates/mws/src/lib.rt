@@ -6,6 +6,7 @@ use file::Whose;
 use file::Writing;
 use plain::Evaluation;
 use plain::Start;
+use set::SetTicking;
 use tally::Tally;
 use text::Printing;
 use text::Reading;
@@ -13,7 +14,6 @@ use watcher::Feeding;
 use watcher::Needed;
 use watcher::Opening;
 use watcher::Ticking;
-use watcher::set::SetTicking;
 ghost use mathlib.Core.Path.{_≡_};
 ghost use Prim.Native.Nat.{_≤_};
 ghost use Rattle.rules.specs.Limits.{argumentBytes};
@@ -220,7 +220,7 @@ pub extern "C" fn mws_watch_feed(
 pub extern "C" fn mws_set_room(file: &[u8], words: &mut u64) -> u64
     ensures { λ r. ⌜ SetRoomTold (now (file .entry)) (now (words .entry)) (now (words .exit)) r ⌝ }
 {
-    match watcher::set::room(file) {
+    match set::room(file) {
         Needed::Words(n) => {
             *words = n as u64;
             0
@@ -234,7 +234,7 @@ pub extern "C" fn mws_set_room(file: &[u8], words: &mut u64) -> u64
 pub extern "C" fn mws_set_open(file: &[u8], states: &mut [u64]) -> u64
     ensures { λ r. ⌜ SetOpened (now (file .entry)) (now (states .entry)) (now (states .exit)) r ⌝ }
 {
-    match watcher::set::open(file, states) {
+    match set::open(file, states) {
         Opening::Opened => 0,
         Opening::Refused(r) => refusal::packed(r),
     }
@@ -251,7 +251,7 @@ pub extern "C" fn mws_set_tick(
 ) -> u64
     ensures { λ r. ⌜ SetTaken count (now (states .entry)) (now (answers .entry)) t events (now (states .exit)) (now (answers .exit)) r ⌝ }
 {
-    match watcher::set::tick(states, count, t, events, answers) {
+    match set::tick(states, count, t, events, answers) {
         SetTicking::Ticked => 0,
         SetTicking::Refused(r) => refusal::packed(r),
     }
