@@ -1,10 +1,9 @@
 // Sets at the edges: 16 patterns, each `(A;B)`, in one slice of 112 words.
 use crate::show;
 use file::Writing;
+use set::SetTicking;
 use watcher::Needed;
 use watcher::Opening;
-use watcher::set;
-use watcher::set::SetTicking;
 
 pub(crate) fn run() {
     let mut file = [0u8; 433];

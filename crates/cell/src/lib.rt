@@ -13,7 +13,7 @@ ghost use Rattle.cell.specs.Calls.{StepAnswers};
 ghost use Rattle.cell.specs.Calls.{PushAnswers};
 
 // The words of an operator's cell, where its right operand has y possible starts.
-pub fn words(op: Op, y: u8) -> usize
+pub fn size(op: Op, y: u8) -> usize
     ensures { λ r. ⌜ r ≡ cellWords op y ⌝ }
 {
     match op {
@@ -25,7 +25,7 @@ pub fn words(op: Op, y: u8) -> usize
 }
 
 // How many possible starts an operator has, from those of its operands.
-pub fn possible(op: Op, x: u8, y: u8) -> usize
+pub fn possible_starts(op: Op, x: u8, y: u8) -> usize
     ensures { λ r. ⌜ r ≡ possible op x y ⌝ }
 {
     match op {
@@ -37,7 +37,7 @@ pub fn possible(op: Op, x: u8, y: u8) -> usize
 }
 
 // Whether words are a cell of the operator and in form, where the next tick allowed is given.
-pub fn fits(op: Op, cell: &[u64], next: u64) -> bool
+pub fn in_form(op: Op, cell: &[u64], next: u64) -> bool
     ensures { λ r. ⌜ r ≡ cellInForm next op (now (cell .entry)) ⌝ }
 {
     match op {

@@ -14,8 +14,10 @@ use Rattle.rules.specs.Limits.{mostEntries}
 use Rattle.body.specs.Bytes.{bytesOf, valueAt, Bytes}
 use Rattle.body.proofs.Bytes.{value-drop, value-bytes, bytes-value}
 use Rattle.file.specs.declared.FileCheck.the-variants.{Sound}
+use Rattle.file.specs.declared.Place.the-variants.{At}
 use Rattle.file.specs.Contents.{bodyBytes, nameBytes, contentsBytes, bodiesAt, nameOf, contentOf, contents, fileOf, total}
 use Rattle.file.specs.Check.{brokenEntry, namesIn, countsIn, contentKept, brokenContent, partsCheck, checkOf}
+use Rattle.file.specs.Place.{placeIn}
 use Rattle.file.specs.Claim.{PartsOf, Parts}
 use Rattle.file.proofs.Checks.{entries-first, entries-small, content-kept, contents-first, length-counts}
 use Rattle.file.proofs.Checks.{PartsSound, parts-sound, sound-parts, RestSound, rest-sound, sound-rest}
@@ -104,6 +106,34 @@ module _ (rest : List ℕ) where
       )
       (contents-kept name (drop nameBytes names) counts (offset + bodyBytes n) (i + 1) (omega (arith, length-drop nameBytes names)) (omega arith)
       (first .1))
+
+  -- and the place that entry number i says is that of body number i
+  pub place-there : (names counts : List ℕ) (offset i : ℕ) → length names ≡ nameBytes * length counts → offset + total counts < 65536
+      → i < length counts
+      → placeIn (drop (contentsBytes * i) (contents names counts offset ++ rest)) ≡ At (offset + total (take i counts)) (bodyBytes (getD counts i 0))
+  unfolding total
+  place-there names [] offset i h l k = absurd (omega arith)
+  place-there names (n ∷ counts) offset zero h l k =
+      let name : List ℕ = take nameBytes names in
+      let more : List ℕ = contents (drop nameBytes names) counts (offset + bodyBytes n) ++ rest in
+      let long : length name ≡ nameBytes = length-take-le nameBytes names (omega arith) in
+      let z : offset ≡ offset + 0 = omega arith in
+      rw (contents-cons names n counts offset, head-offset name more offset n long (omega arith), head-count name more offset n long)
+      (ap (λ (o : ℕ). At o (bodyBytes n)) z)
+  place-there names (n ∷ counts) offset (suc i) h l k =
+      let name : List ℕ = take nameBytes names in
+      let more : List ℕ = contents (drop nameBytes names) counts (offset + bodyBytes n) ++ rest in
+      let long : length name ≡ nameBytes = length-take-le nameBytes names (omega arith) in
+      let next : contentsBytes * suc i ≡ contentsBytes + contentsBytes * i = omega arith in
+      let z : offset + bodyBytes n + total (take i counts) ≡ offset + (bodyBytes n + total (take i counts)) = omega arith in
+      rw (
+        next,
+        ← drop-drop (contentsBytes * i) contentsBytes (contents names (n ∷ counts) offset ++ rest),
+        contents-cons names n counts offset,
+        head-rest name more offset n long,
+      )
+      (place-there (drop nameBytes names) counts (offset + bodyBytes n) i (omega (arith, length-drop nameBytes names)) (omega arith) (omega arith)
+      ∙ ap (λ (o : ℕ). At o (bodyBytes (getD counts i 0))) z)
 
 -- bytes of parts of a list of bytes
 bytes-append : (a b : List ℕ) → Bytes a → Bytes b → Bytes (a ++ b)

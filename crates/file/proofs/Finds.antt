@@ -1,25 +1,27 @@
 -- A turn of the search for a name in a sound file, and each way out. Assumes nothing.
 use Prim.Native.Nat.{ℕ, _+_, _-_, _*_, _≤_, _<_}
 use mathlib.Core.Path.{_≡_, refl, sym, ap₂, _∙_}
-use mathlib.Core.Bool.{true, false, cond}
+use mathlib.Core.Bool.{Bool, true, false, cond}
 use mathlib.Core.List.{List, [], _∷_}
 use native.Mathlib.Nat.{sub-zero}
 use native.Mathlib.Omega.{arith}
 use lib.ListN.{length, getD, take, drop}
-use lib.Seq.{drop-drop, getD-drop}
+use lib.Dec.{ltb, leb}
+use lib.Seq.{drop-drop}
+use borrow.Author.Tests.{lt-ltb, le-ltb, le-leb, lt-leb}
 use Rattle.rules.proofs.Lists.{drop-part}
 use Rattle.rules.proofs.Impossible.{impossible}
 use Rattle.refusal.specs.declared.Refusal.{Refusal}
 use Rattle.refusal.specs.declared.Refusal.the-variants.{Absent}
-use Rattle.body.specs.Bytes.{valueAt}
 use Rattle.body.proofs.Scan.{left-suc, left-zero}
 use Rattle.file.specs.declared.FileCheck.the-variants as Checks
 use Rattle.file.specs.declared.Whose.the-variants.{Site, Fleet}
 use Rattle.file.specs.declared.Finding.the-variants.{Broken, Refused}
 use Rattle.file.specs.declared.Place.{Place}
-use Rattle.file.specs.declared.Place.the-variants.{At, Nowhere}
-use Rattle.file.specs.Contents.{bodyBytes, nameBytes, contentsBytes}
+use Rattle.file.specs.declared.Place.the-variants.{Nowhere}
+use Rattle.file.specs.Contents.{nameBytes, contentsBytes, bodiesAt}
 use Rattle.file.specs.Check.{checkOf}
+use Rattle.file.specs.Place.{placeIn, patternCount, bodyPlace}
 use Rattle.file.specs.Lookup.{same, seek, placed, inFile, findingOf}
 use Rattle.file.proofs.Checks.{rest-sound}
 
@@ -48,16 +50,16 @@ sought-none (x ∷ f) name count e p = record {
 module _ {file name : List ℕ} {count i at : ℕ} (k : Sought file name count i at) (h : i < count) where
   seek-turn : seek (drop at file) name (count - i)
       ≡ cond (same (take (at + nameBytes - at) (drop at file)) name)
-      (At (valueAt 2 (take (length file - at) (drop at file)) 8) (bodyBytes (getD file (at + 10) 0)))
+      (placeIn (take (length file - at) (drop at file)))
       (seek (drop (at + contentsBytes) file) name (count - (i + 1)))
   unfolding seek
   seek-turn =
       let long : at + nameBytes - at ≡ nameBytes = omega arith in
-      rw (left-suc count i h, long, drop-part file at, getD-drop at file 10 0, drop-drop contentsBytes at file)
+      rw (left-suc count i h, long, drop-part file at, drop-drop contentsBytes at file)
 
-  pub sought-here : {from n : ℕ} → same (take (at + nameBytes - at) (drop at file)) name ≡ true
-      → from ≡ valueAt 2 (take (length file - at) (drop at file)) 8 → n ≡ getD file (at + 10) 0 → At from (bodyBytes n) ≡ placed file name
-  sought-here p q r = rw (q, r) (rw (seek-turn, p) at (k .rest))
+  pub sought-here : {r : Place} → same (take (at + nameBytes - at) (drop at file)) name ≡ true
+      → r ≡ placeIn (take (length file - at) (drop at file)) → r ≡ placed file name
+  sought-here p q = q ∙ rw (seek-turn, p) at (k .rest)
 
   pub sought-more : same (take (at + nameBytes - at) (drop at file)) name ≡ false → Sought file name count (i + 1) (at + contentsBytes)
   sought-more p = record { held = k .held; upto = omega arith; place = omega (arith, k .place); rest = rw (seek-turn, p) at (k .rest) }
@@ -65,6 +67,28 @@ module _ {file name : List ℕ} {count i at : ℕ} (k : Sought file name count i
 pub sought-all : {file name : List ℕ} {count i at : ℕ} → Sought file name count i at → count ≤ i → Nowhere ≡ placed file name
 unfolding seek
 sought-all {count = count} {i = i} k h = rw (left-zero count i h) at (k .rest)
+
+-- where body number i is, one law for each way out
+pub count-none : (f : List ℕ) → length f ≡ 0 → 0 ≡ patternCount f
+count-none [] h = refl
+count-none (x ∷ f) h = absurd (omega arith)
+
+module _ (f : List ℕ) (i : ℕ) where
+  pub body-past : patternCount f ≤ i → Nowhere ≡ bodyPlace f i
+  unfolding bodyPlace
+  body-past h = rw (le-ltb i (patternCount f) h)
+
+  pub body-cut : length f < bodiesAt (i + 1) → Nowhere ≡ bodyPlace f i
+  unfolding bodyPlace
+  body-cut h = go (ltb i (patternCount f))
+    where
+      go : (t : Bool) → Nowhere ≡ cond t (cond (leb (bodiesAt (i + 1)) (length f)) (placeIn (drop (bodiesAt i) f)) Nowhere) Nowhere
+      go true = rw (lt-leb (bodiesAt (i + 1)) (length f) h)
+      go false = refl
+
+  pub body-here : i < patternCount f → bodiesAt (i + 1) ≤ length f → placeIn (drop (bodiesAt i) f) ≡ bodyPlace f i
+  unfolding bodyPlace
+  body-here h k = rw (lt-ltb i (patternCount f) h, le-leb (bodiesAt (i + 1)) (length f) k)
 
 -- the answer of a lookup, one law for each way out
 module _ (site fleet name : List ℕ) where

@@ -25,17 +25,18 @@ use Rattle.file.specs.Contents.{nameByte, spaces, padded, named, below, 
 use Rattle.file.specs.Contents.{nameOf, fileOf, total, bodyAt, bodyOf}
 use Rattle.file.specs.Check.{entryKept, brokenEntry, brokenBody, bodiesCheck, partsCheck, countsIn, contentKept, brokenContent, restCheck, checkOf}
 use Rattle.file.specs.Write.{writingOf}
+use Rattle.file.specs.Place.{placeIn, patternCount, bodyPlace}
 use Rattle.file.specs.Lookup.{placed, findingOf, partOf}
-use Rattle.file.specs.Claim.{PartsOf, AcceptedExactly, OneWay, OneName, WrittenAccepted, FoundBody, FoundWithin, FoundNamed}
+use Rattle.file.specs.Claim.{PartsOf, AcceptedExactly, OneWay, BodiesPlaced, OneName, WrittenAccepted, FoundBody, FoundWithin, FoundNamed}
 use Rattle.file.specs.Claim.{Lacks, FoundInSite, FoundInFleet, AbsentFromBoth, BrokenExactly}
 use Rattle.file.specs.Claim.{ReadsBack, FileReadsBack, WrittenReadsBack, WriterRefuses, SmallestFile}
 use Rattle.file.specs.Claim.{PartsJudged, FileJudged}
 use Rattle.file.specs.Judged.{Judged, PartsCounted, PartRight, FileCounted, ContentRight, countsOf, bodiesOf}
 use Rattle.file.proofs.Checks.{parts-sound, check-rest}
 use Rattle.file.proofs.Writes.{wrote-parts, refused-by}
-use Rattle.file.proofs.Files.{near, bodies-after, written-sound, accepted-parts, parts-read}
+use Rattle.file.proofs.Files.{near, bodies-after, rest-made, place-there, written-sound, accepted-parts, parts-read}
 use Rattle.file.proofs.Order.{names-differ, name-once, seek-nowhere, seek-there}
-use Rattle.file.proofs.Finds.{finding-site-broken, finding-fleet-broken, finding-by}
+use Rattle.file.proofs.Finds.{body-here, finding-site-broken, finding-fleet-broken, finding-by}
 use Rattle.file.proofs.Found.{finding-found, broken-by}
 use Rattle.file.proofs.Judges.{judged-exactly, parts-found, contents-found}
 
@@ -139,6 +140,18 @@ body-part f names counts bodies k i =
     let at : drop (bodyAt counts i) file ≡ drop (total (take i counts)) bodies =
     sym (drop-drop (total (take i counts)) (bodiesAt (length counts)) file) ∙ ap (drop (total (take i counts))) from in
     ap (take (bodyBytes (getD counts i 0))) (ap (drop (bodyAt counts i)) (k .same) ∙ at)
+
+pub bodies-placed : BodiesPlaced
+bodies-placed f names counts bodies k = (ap patternCount (k .same), λ i h. (placed-at i h, body-part f names counts bodies k i))
+  where
+    placed-at : (i : ℕ) → i < length counts → bodyPlace f i ≡ At (bodyAt counts i) (bodyBytes (getD counts i 0))
+    placed-at i h =
+        let s = parts-sound names counts bodies (k .sound) in
+        let file : List ℕ = fileOf names counts bodies in
+        ap (λ (g : List ℕ). bodyPlace g i) (k .same)
+        ∙ sym (body-here file i h (omega (arith, rest-made names counts bodies s .held)))
+        ∙ ap placeIn (sym (drop-drop (contentsBytes * i) 1 file))
+        ∙ place-there bodies names counts (bodiesAt (length counts)) i (s .full) (near names counts bodies s) h
 
 parts-read-back : (f names counts bodies : List ℕ) → PartsOf f names counts bodies → ReadsBack f names counts bodies
 parts-read-back f names counts bodies k = record {

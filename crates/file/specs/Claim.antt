@@ -4,7 +4,7 @@ use mathlib.Core.Path.{_≡_}
 use mathlib.Core.Logic.{_⊎_, _↔_}
 use mathlib.Core.Bool.{true}
 use mathlib.Core.List.{List, [], _∷_}
-use lib.ListN.{length, getD, take}
+use lib.ListN.{length, getD, take, drop}
 use Rattle.rules.specs.Limits.{argumentBytes}
 use Rattle.refusal.specs.declared.Refusal.{Refusal}
 use Rattle.refusal.specs.declared.Refusal.the-variants.{Room, Absent}
@@ -15,11 +15,13 @@ use Rattle.file.specs.declared.FileCheck.{FileCheck}
 use Rattle.file.specs.declared.FileCheck.the-variants.{Sound, Refused as Unsound}
 use Rattle.file.specs.declared.Whose.{Whose}
 use Rattle.file.specs.declared.Whose.the-variants.{Site, Fleet}
+use Rattle.file.specs.declared.Place.the-variants.{At}
 use Rattle.file.specs.declared.Finding.the-variants.{Found, Broken, Refused}
 use Rattle.file.specs.declared.Writing.the-variants.{Written, Refused as Unwritten}
 use Rattle.file.specs.Contents.{named, bodyBytes, nameBytes, nameOf, fileOf, bodyAt, bodyOf}
 use Rattle.file.specs.Check.{partsCheck, checkOf}
 use Rattle.file.specs.Write.{writingOf, Wrote}
+use Rattle.file.specs.Place.{patternCount, bodyPlace}
 use Rattle.file.specs.Lookup.{findingOf, fileFrom, partOf}
 use Rattle.file.specs.Judged.{Judged, PartsCounted, PartRight, FileCounted, ContentRight, countsOf, bodiesOf}
 
@@ -47,6 +49,15 @@ abbrev pub OneWay : Type 0
 OneWay =
     (f names counts bodies names′ counts′ bodies′ : List ℕ) → PartsOf f names counts bodies → PartsOf f names′ counts′ bodies′
     → (names ≡ names′) × (counts ≡ counts′) × (bodies ≡ bodies′)
+
+-- such a file says how many patterns it has, and where each body is
+abbrev pub BodiesPlaced : Type 0
+BodiesPlaced =
+    (f names counts bodies : List ℕ) → PartsOf f names counts bodies
+    → (patternCount f ≡ length counts)
+    × ((i : ℕ) → i < length counts
+    → (bodyPlace f i ≡ At (bodyAt counts i) (bodyBytes (getD counts i 0)))
+    × (take (bodyBytes (getD counts i 0)) (drop (bodyAt counts i) f) ≡ bodyOf counts bodies i))
 
 -- a file has each name at most once
 abbrev pub OneName : Type 0

@@ -5,17 +5,17 @@ use Prim.Native.Nat.{ℕ, zero, suc}
 use mathlib.Core.Bool.{Bool, true, false, cond}
 use mathlib.Core.List.{List, [], _∷_}
 use lib.Dec.{eqb}
-use lib.ListN.{getD, take, drop}
+use lib.ListN.{take, drop}
 use Rattle.refusal.specs.declared.Refusal.the-variants.{Absent}
-use Rattle.body.specs.Bytes.{valueAt}
 use Rattle.file.specs.declared.Whose.{Whose}
 use Rattle.file.specs.declared.Whose.the-variants.{Site, Fleet}
 use Rattle.file.specs.declared.Place.{Place}
 use Rattle.file.specs.declared.Place.the-variants.{At, Nowhere}
 use Rattle.file.specs.declared.Finding.{Finding}
 use Rattle.file.specs.declared.Finding.the-variants.{Found, Broken, Refused}
-use Rattle.file.specs.Contents.{bodyBytes, nameBytes, contentsBytes}
+use Rattle.file.specs.Contents.{nameBytes, contentsBytes}
 use Rattle.file.specs.Check.{onFile, checkOf}
+use Rattle.file.specs.Place.{placeIn}
 
 -- whether two names have the same length and the same bytes
 unfoldable pub same : List ℕ → List ℕ → Bool
@@ -27,7 +27,7 @@ same (c ∷ l) (d ∷ m) = cond (eqb c d) (same l m) false
 -- where the body with a name begins and how many bytes it has, by the k entries that contents begin with
 unfoldable pub seek : List ℕ → List ℕ → ℕ → Place
 seek c name zero = Nowhere
-seek c name (suc k) = cond (same (take nameBytes c) name) (At (valueAt 2 c 8) (bodyBytes (getD c 10 0))) (seek (drop contentsBytes c) name k)
+seek c name (suc k) = cond (same (take nameBytes c) name) (placeIn c) (seek (drop contentsBytes c) name k)
 
 -- the same in a sound file
 abbrev pub placed : List ℕ → List ℕ → Place

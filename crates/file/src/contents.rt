@@ -2,6 +2,7 @@
 use crate::CONTENT_BYTES;
 use crate::FileCheck;
 use crate::NAME_BYTES;
+use crate::Place;
 use crate::parts;
 use refusal::Refusal;
 use rules::ENTRY_BYTES;
@@ -14,6 +15,7 @@ ghost use Rattle.body.specs.Bytes.{valueAt};
 ghost use Rattle.file.specs.declared.FileCheck.the-variants.{Sound};
 ghost use Rattle.file.specs.Contents.{bodiesAt};
 ghost use Rattle.file.specs.Check.{onEntry, countsIn, contentKept, brokenContent, restCheck};
+ghost use Rattle.file.specs.Place.{placeIn};
 ghost use Rattle.file.specs.Ready.{Held};
 
 // Checks what follows the count of a file.
@@ -80,11 +82,19 @@ fn content_kept(before: &[u8], contents: &[u8], offset: usize) -> bool
 }
 
 // The offset in the entry that `contents` begins with.
-pub(crate) fn offset_of(contents: &[u8]) -> usize
+fn offset_of(contents: &[u8]) -> usize
     requires { ⌜ 12 ≤ length (now contents) ⌝ }
     ensures { λ r. ⌜ r ≡ valueAt 2 (now (contents .entry)) 8 ⌝ }
 {
     parts::wide(contents[8]) + 256 * parts::wide(contents[9])
+}
+
+// Where the body is whose entry `contents` begins with.
+pub(crate) fn place_in(contents: &[u8]) -> Place
+    requires { ⌜ 12 ≤ length (now contents) ⌝ }
+    ensures { λ r. ⌜ r ≡ placeIn (now (contents .entry)) ⌝ }
+{
+    Place::At(offset_of(contents), parts::wide(contents[10]) * ENTRY_BYTES)
 }
 
 // Copies the numbers of entries out of the contents.

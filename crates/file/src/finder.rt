@@ -4,7 +4,6 @@ use crate::NAME_BYTES;
 use crate::Place;
 use crate::contents;
 use crate::parts;
-use rules::ENTRY_BYTES;
 ghost use mathlib.Core.Path.{_≡_};
 ghost use Rattle.file.specs.declared.FileCheck.the-variants.{Sound};
 ghost use Rattle.file.specs.Check.{checkOf};
@@ -20,10 +19,7 @@ pub(crate) fn find(file: &[u8], name: &[u8]) -> Place
     let mut at: usize = 1;
     while i < count {
         if is_same(&file[at..at + NAME_BYTES], name) {
-            return Place::At(
-                contents::offset_of(&file[at..]),
-                parts::wide(file[at + 10]) * ENTRY_BYTES,
-            );
+            return contents::place_in(&file[at..]);
         }
         at += CONTENT_BYTES;
         i += 1;

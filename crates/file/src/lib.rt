@@ -7,7 +7,9 @@ mod writer;
 
 use refusal::Refusal;
 ghost use mathlib.Core.Path.{_≡_};
+ghost use Prim.Native.Nat.{_<_};
 ghost use Rattle.file.specs.Check.{checkOf};
+ghost use Rattle.file.specs.Place.{patternCount, bodyPlace};
 ghost use Rattle.file.specs.Write.{Wrote};
 ghost use Rattle.file.specs.Lookup.{findingOf, partOf};
 
@@ -56,6 +58,30 @@ pub fn check_file(file: &[u8]) -> FileCheck
         return FileCheck::Refused(Refusal::Count);
     }
     contents::check_rest(parts::wide(file[0]), &file[1..])
+}
+
+// How many patterns a file says it has, 0 if it is empty.
+pub fn pattern_count(file: &[u8]) -> usize
+    ensures { λ r. ⌜ (r ≡ patternCount (now (file .entry))) × (r < 256) ⌝ }
+{
+    if file.len() == 0 {
+        return 0;
+    }
+    parts::wide(file[0])
+}
+
+// Where body number i of a file is, as its contents say. It is nowhere if there is no such pattern, or the contents are cut short.
+pub fn body_at(file: &[u8], i: usize) -> Place
+    ensures { λ r. ⌜ r ≡ bodyPlace (now (file .entry)) i ⌝ }
+{
+    if i >= pattern_count(file) {
+        return Place::Nowhere;
+    }
+    let at = 1 + CONTENT_BYTES * i;
+    if file.len() < at + CONTENT_BYTES {
+        return Place::Nowhere;
+    }
+    contents::place_in(&file[at..])
 }
 
 // Writes the file of these names, numbers of entries (one for each pattern) and bodies, all given end to end. A refusal leaves the slice as it was.

@@ -11,7 +11,7 @@ use Rattle.plain.specs.Claim.{startNumber}
 use Rattle.plain.proofs.Theorem.{one-answer, one-start}
 use Rattle.watcher.proofs.Theorem.{one-tick, one-opening, one-room}
 use Rattle.watcher.proofs.Fed.{one-feeding}
-use Rattle.watcher.proofs.SetTheorem.{one-set-tick, one-set-opening, one-set-room}
+use Rattle.set.proofs.Theorem.{one-set-tick, one-set-opening, one-set-room}
 use Rattle.mws.specs.Status.{Outcome, statusOf, numberAfter, Told, evaluating}
 use Rattle.mws.specs.Claim.{OneOutcome, CallsFixed, OnePlain, OneRowLatest}
 

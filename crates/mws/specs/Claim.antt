@@ -10,8 +10,8 @@ use Rattle.plain.specs.Answer.{Answers}
 use Rattle.plain.specs.Claim.{Words}
 use Rattle.watcher.specs.Answer.{RoomAnswers, OpenAnswers, TickAnswers}
 use Rattle.watcher.specs.Feed.{FeedAnswers}
-use Rattle.watcher.specs.Set.{SetAnswers}
-use Rattle.watcher.specs.SetFile.{SetRoomAnswers, SetOpenAnswers}
+use Rattle.set.specs.Set.{SetAnswers}
+use Rattle.set.specs.File.{SetRoomAnswers, SetOpenAnswers}
 use Rattle.mws.specs.Status.{Outcome, Told, Done, evaluating, RowLatest}
 
 -- a promise on what a slice holds afterwards and on the answer leaves no choice

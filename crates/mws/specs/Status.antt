@@ -33,8 +33,8 @@ use Rattle.watcher.specs.declared.Ticking.{Ticking}
 use Rattle.watcher.specs.declared.Ticking.the-variants as Ticks
 use Rattle.watcher.specs.declared.Feeding.{Feeding}
 use Rattle.watcher.specs.declared.Feeding.the-variants as Feeds
-use Rattle.watcher.specs.declared.set.SetTicking.{SetTicking}
-use Rattle.watcher.specs.declared.set.SetTicking.the-variants as Sets
+use Rattle.set.specs.declared.SetTicking.{SetTicking}
+use Rattle.set.specs.declared.SetTicking.the-variants as Sets
 use Rattle.tally.specs.declared.Tally.{Tally}
 use Rattle.tally.specs.Tallied.{addedTo, statusOf as tallyStatus, after}
 

@@ -6,6 +6,7 @@ use file::Whose;
 use file::Writing;
 use plain::Evaluation;
 use plain::Start;
+use set::SetTicking;
 use tally::Tally;
 use text::Printing;
 use text::Reading;
@@ -13,7 +14,6 @@ use watcher::Feeding;
 use watcher::Needed;
 use watcher::Opening;
 use watcher::Ticking;
-use watcher::set::SetTicking;
 ghost use mathlib.Core.Path.{_≡_};
 ghost use Prim.Native.Nat.{_≤_};
 ghost use Rattle.rules.specs.Limits.{argumentBytes};
@@ -26,8 +26,8 @@ ghost use Rattle.text.specs.Answer.{ReadingOf, PrintingOf};
 ghost use Rattle.plain.specs.Answer.{Answers};
 ghost use Rattle.watcher.specs.Answer.{RoomAnswers, OpenAnswers, TickAnswers};
 ghost use Rattle.watcher.specs.Feed.{FeedAnswers};
-ghost use Rattle.watcher.specs.Set.{SetAnswers};
-ghost use Rattle.watcher.specs.SetFile.{SetRoomAnswers, SetOpenAnswers};
+ghost use Rattle.set.specs.Set.{SetAnswers};
+ghost use Rattle.set.specs.File.{SetRoomAnswers, SetOpenAnswers};
 ghost use Rattle.mws.specs.Status.{statusOf, Told, Done, checked, filed, reading, printing, writing, evaluating, needing, opening, ticking, feeding, settling};
 ghost use Rattle.mws.specs.Status.{RowLatest, fileBits, LookedUp, TallyAdded};
 
@@ -226,7 +226,7 @@ pub extern "C" fn mws_watch_feed(
 pub extern "C" fn mws_set_room(file: &[u8], words: &mut u64) -> u64
     ensures { λ r. ⌜ Told needing (SetRoomAnswers (now (file .entry))) (now (words .entry)) (now (words .exit)) r ⌝ }
 {
-    match watcher::set::room(file) {
+    match set::room(file) {
         Needed::Words(n) => {
             *words = n as u64;
             0
@@ -240,7 +240,7 @@ pub extern "C" fn mws_set_room(file: &[u8], words: &mut u64) -> u64
 pub extern "C" fn mws_set_open(file: &[u8], states: &mut [u64]) -> u64
     ensures { λ r. ⌜ Done opening (SetOpenAnswers (now (file .entry)) (now (states .entry)) (now (states .exit))) r ⌝ }
 {
-    match watcher::set::open(file, states) {
+    match set::open(file, states) {
         Opening::Opened => 0,
         Opening::Refused(r) => refusal::packed(r),
     }
@@ -257,7 +257,7 @@ pub extern "C" fn mws_set_tick(
 ) -> u64
     ensures { λ r. ⌜ Done settling (SetAnswers count (now (states .entry)) (now (answers .entry)) t events (now (states .exit)) (now (answers .exit))) r ⌝ }
 {
-    match watcher::set::tick(states, count, t, events, answers) {
+    match set::tick(states, count, t, events, answers) {
         SetTicking::Ticked => 0,
         SetTicking::Refused(r) => refusal::packed(r),
     }

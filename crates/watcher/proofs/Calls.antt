@@ -1,7 +1,7 @@
 -- A tick's promise, from what the code computes: the form judged, the next tick allowed, and the walk over the entries.
 -- Two states in form with the same words give the same answer and the same words, as the walk goes by the words alone. Assumes nothing.
-use Prim.Native.Nat.{ℕ, suc, _≤_, _<_}
-use mathlib.Core.Path.{_≡_, refl, sym, ap, _∙_}
+use Prim.Native.Nat.{ℕ, suc, _-_, _≤_, _<_}
+use mathlib.Core.Path.{_≡_, refl, sym, ap, subst, _∙_}
 use mathlib.Core.Bool.{true, false}
 use mathlib.Core.List.{List, [], _∷_, _++_}
 use native.Mathlib.Numerals.{add-one}
@@ -11,9 +11,11 @@ use Rattle.rules.proofs.Impossible.{impossible}
 use Rattle.rules.specs.Limits.{ticks}
 use Rattle.detector.specs.Step.{answer, next}
 use Rattle.refusal.specs.declared.Refusal.the-variants.{State, Range, Late}
+use Rattle.watcher.specs.declared.Ticking.the-variants.{Window, Nothing}
 use Rattle.watcher.specs.State.{cells, stateOf, InForm}
-use Rattle.watcher.specs.Answer.{IsTicked, TickRefused, over, broken, below}
+use Rattle.watcher.specs.Answer.{TickReady, IsTicked, TickRefused, over, broken, below, TickAnswers}
 use Rattle.watcher.specs.Walk.{Value, Cells, tickM, formed, ticked, lastAnswer, answerOf, wordsAfter}
+use Rattle.watcher.specs.Step.{StepsReady, StepsDone}
 use Rattle.watcher.proofs.Entries.{run-tree}
 use Rattle.watcher.proofs.States.{state-parts, next-word, entries-read, cells-from, front-words}
 use Rattle.watcher.proofs.Judges.{formed-exactly}
@@ -44,11 +46,34 @@ ticked-as-walked {s} {s′} {t} {w} {a} i =
     (i .answered ∙ sym (answer-in-form (i .form) t w (i .late)), i .words ∙ sym (words-in-form (i .form) t w (i .late)))
 
 -- what the code tests and computes is what is promised
-pub walked-as-ticked : (s : List ℕ) (t w : ℕ) → t < ticks → formed s ≡ true → getD s 1 0 ≤ t → IsTicked s (wordsAfter t w s) t w (answerOf t w s)
-walked-as-ticked s t w r q l =
+pub tick-ready : {s : List ℕ} {t : ℕ} → t < ticks → formed s ≡ true → getD s 1 0 ≤ t → TickReady s t
+tick-ready {s} r q l =
     let f : InForm s = formed-exactly s .0 q in
-    let k : f .next ≤ t = omega (arith, next-word f) in
-    record { range = r; form = f; late = k; answered = answer-in-form f t w k; words = words-in-form f t w k }
+    record { form = f; late = omega (arith, next-word f); range = r }
+
+pub steps-ready : {s : List ℕ} {t : ℕ} → TickReady s t → StepsReady s t
+steps-ready {s} x = record { form = formed-exactly s .1 (x .form); late = omega (arith, next-word (x .form), x .late); range = x .range }
+
+pub steps-ticked : {s s′ : List ℕ} {t w a : ℕ} → TickReady s t → StepsDone s t w s′ a → IsTicked s s′ t w a
+steps-ticked {s} {s′} {t} {w} {a} x d =
+    let f : InForm s = x .form in
+    record {
+      range = x .range;
+      form = f;
+      late = x .late;
+      answered = d .answer ∙ answer-in-form f t w (x .late);
+      words = d .words ∙ words-in-form f t w (x .late);
+    }
+
+module _ {s s′ : List ℕ} {t w a : ℕ} (i : IsTicked s s′ t w a) where
+  pub ticked-nothing : a ≡ 0 → TickAnswers s s′ t w Nothing
+  ticked-nothing e = subst (IsTicked s s′ t w) e i
+
+  pub ticked-window : (a ≡ 0 → ⊥) → TickAnswers s s′ t w (Window (a - 1))
+  ticked-window n = let e : a ≡ suc (a - 1) = omega arith in subst (IsTicked s s′ t w) e i
+
+pub walked-as-ticked : (s : List ℕ) (t w : ℕ) → t < ticks → formed s ≡ true → getD s 1 0 ≤ t → IsTicked s (wordsAfter t w s) t w (answerOf t w s)
+walked-as-ticked s t w r q l = steps-ticked (tick-ready r q l) (record { answer = refl; words = refl })
 
 pub refused-form : (s : List ℕ) (t : ℕ) → t < ticks → formed s ≡ false → TickRefused s t (State 0)
 refused-form s t r q =

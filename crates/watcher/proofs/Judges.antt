@@ -31,11 +31,11 @@ use Rattle.body.proofs.Bodies.{length-by}
 use Rattle.body.proofs.Trees.{size-pos, length-postfix, proper-fits, fits-proper, scan-tree}
 use Rattle.cell.specs.Cell.{cellWords, possible}
 use Rattle.cell.specs.Form.{cellFits}
-use Rattle.watcher.specs.State.{entryWords, cells, stateOf, InForm}
+use Rattle.watcher.specs.State.{entryWords, cells, stateOf, roomOf, InForm}
 use Rattle.watcher.specs.Walk.{entryIn, judgeCell, onAhead, judgeM, isSome, isNone, judged, formed, endBy, extent}
-use Rattle.watcher.specs.Claim.{FormedExactly}
+use Rattle.watcher.specs.Claim.{FormedExactly, ExtentExactly}
 use Rattle.watcher.proofs.Entries.{Fitting, words-entries, read-fits, run-tree}
-use Rattle.watcher.proofs.States.{state-parts, count-word, next-word, entries-read, cells-from, state-long}
+use Rattle.watcher.proofs.States.{state-parts, length-state, count-word, next-word, entries-read, cells-from, state-long}
 use Rattle.watcher.proofs.Cells.{left, right, own, cells-ahead, form-left, form-right, length-own, possible-p}
 use Rattle.watcher.proofs.Fits.{Found, own-found, own-fits}
 
@@ -288,3 +288,14 @@ extent-broken s h = go (formed s) refl
         let f : InForm s = judged-in-form s (formed-judged s q) in
         absurd (omega (arith, in-form-extent s f, ap length (f .same), length-append (stateOf (f .pattern) (f .next) (f .memory)) (f .beyond)))
     go false q = q
+
+pub extent-exactly : ExtentExactly
+extent-exactly s = ((λ h. formed-exactly s .0 (extent-formed s h), λ f. some f), room)
+  where
+    room : (f : InForm s) → extent s ≡ roomOf (f .pattern)
+    room f =
+        let own : List ℕ = stateOf (f .pattern) (f .next) (f .memory) in
+        omega (arith, in-form-extent s f, ap length (f .same), length-append own (f .beyond), length-state (f .pattern) (f .next) (f .memory))
+
+    some : InForm s → 0 < extent s
+    some f = omega (arith, room f)

@@ -13,7 +13,6 @@ pub mod Ticks
 pub mod Runs
 pub mod Places
 pub mod Calls
-pub mod Ways
 pub mod Feeds
 pub mod Walking
 pub mod Segments
@@ -25,12 +24,3 @@ pub mod Puts
 pub mod Agrees
 pub mod Theorem
 pub mod Fed
-pub mod Parts
-pub mod SetJudges
-pub mod Lent
-pub mod SetSteps
-pub mod SetFiles
-pub mod SetOpens
-pub mod Past
-pub mod SetAlones
-pub mod SetTheorem

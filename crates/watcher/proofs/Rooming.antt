@@ -6,7 +6,6 @@ use native.Mathlib.Nat.{sub-zero}
 use native.Mathlib.Omega.{arith}
 use lib.ListN.{length}
 use Rattle.rules.specs.declared.Op.{Op}
-use Rattle.rules.specs.declared.Op.the-variants.{Either, Both, Without, Chain}
 use Rattle.rules.specs.Limits.{argumentBytes, mostEntries}
 use Rattle.body.specs.declared.Entry.{Entry}
 use Rattle.body.specs.declared.Entry.the-variants.{Letter, Pair, Within}
@@ -17,6 +16,7 @@ use Rattle.body.specs.Machine.{step, run}
 use Rattle.body.proofs.Walk.{run-end, sound-start}
 use Rattle.cell.specs.Cell.{cellWords, possible}
 use Rattle.watcher.specs.Walk.{roomM, cellsNeeded}
+use Rattle.watcher.proofs.Cells.{words-le}
 use Rattle.watcher.proofs.Entries.{run-step}
 use Rattle.watcher.proofs.Piles.{total, Piled, piled-start, piled-letter, piled-within, piled-pair}
 
@@ -36,13 +36,6 @@ unfolding cellsNeeded entries
 rooming-start b q =
     let s = sound-start argumentBytes b q in
     record { most = s .most; small = omega arith; piled = piled-start (entryAt argumentBytes b) (count b) (s .rest); same = simp sub-zero }
-
-pub words-le : (op : Op) (y : ℕ) → cellWords op y ≤ 2 * y + 4
-unfolding cellWords
-words-le Either y = omega arith
-words-le Both y = omega arith
-words-le Without y = omega arith
-words-le Chain y = omega arith
 
 module _ {b : List ℕ} {i g : ℕ} {st : List ℕ} (x : Rooming b i g st) where
   pub rooming-end : length b / (argumentBytes + 1) ≤ i → cellsNeeded b ≡ g

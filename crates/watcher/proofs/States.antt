@@ -11,8 +11,9 @@ use Rattle.detector.specs.Memory.{Memory}
 use Rattle.body.specs.Entry.{entriesBy}
 use Rattle.body.specs.Postfix.{postfix}
 use Rattle.body.proofs.Trees.{length-postfix}
-use Rattle.watcher.specs.State.{entryWords, cells, stateOf, InForm}
+use Rattle.watcher.specs.State.{entryWords, cells, stateOf, roomOf, InForm}
 use Rattle.watcher.specs.Walk.{entryIn}
+use Rattle.watcher.proofs.Cells.{length-cells}
 use Rattle.watcher.proofs.Entries.{entries-in, length-words}
 
 -- the words of a state, each part after the one before
@@ -22,6 +23,10 @@ state-parts e next m beyond = ap (λ (l : List ℕ). size e ∷ next ∷ l) (app
 
 length-entry-words : (e : Pattern) → length (entryWords (postfix e)) ≡ size e
 length-entry-words e = length-words (postfix e) ∙ length-postfix e
+
+-- a state has its room
+pub length-state : (e : Pattern) (next : ℕ) (m : Memory e) → length (stateOf e next m) ≡ roomOf e
+length-state e next m = omega (arith, length-append (entryWords (postfix e)) (cells e m), length-entry-words e, length-cells e m)
 
 module _ {s : List ℕ} (f : InForm s) where
   parts : s ≡ size (f .pattern) ∷ f .next ∷ (entryWords (postfix (f .pattern)) ++ (cells (f .pattern) (f .memory) ++ f .beyond))

@@ -19,7 +19,7 @@ use Rattle.watcher.specs.declared.Opening.the-variants as Opens
 use Rattle.watcher.specs.declared.Ticking.the-variants as Ticks
 use Rattle.watcher.specs.State.{stateOf, roomOf}
 use Rattle.watcher.specs.Answer.{IsOpened, IsTicked, TickRefused, over, broken, below, OpenRefused, unsound, short}
-use Rattle.watcher.specs.Claim.{Agrees, StaysInForm, FormedExactly, OneTick, OneOpening, OneRoom, Watched, opened, window, nothing}
+use Rattle.watcher.specs.Claim.{Agrees, StaysInForm, FormedExactly, ExtentExactly, OneTick, OneOpening, OneRoom, Watched, opened, window, nothing}
 use Rattle.watcher.proofs.Judges as Judges
 use Rattle.watcher.proofs.Calls.{ticked-as-walked}
 use Rattle.watcher.proofs.Agrees.{never-both, watched-reached, reached-form, reached-answers}
@@ -40,6 +40,9 @@ stays-in-form b h s x =
 
 pub formed-exactly : FormedExactly
 formed-exactly = Judges.formed-exactly
+
+pub extent-exactly : ExtentExactly
+extent-exactly = Judges.extent-exactly
 
 -- a tick is refused in one way only
 one-refusal : {s : List ℕ} {t : ℕ} {r r′ : Refusal} → TickRefused s t r → TickRefused s t r′ → r ≡ r′

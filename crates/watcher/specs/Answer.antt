@@ -43,6 +43,12 @@ abbrev pub OpenAnswers : List ℕ → List ℕ → List ℕ → Opening → Type
 OpenAnswers b old new Opens.Opened = IsOpened b old new
 OpenAnswers b old new (Opens.Refused r) = OpenRefused b old r × (new ≡ old)
 
+-- a state takes a tick: it is in form, and the tick is in range and not below the next allowed
+pub record TickReady (s : List ℕ) (t : ℕ) : Type 0 where
+  pub form : InForm s
+  pub late : form .next ≤ t
+  pub range : t < ticks
+
 -- an accepted tick: the answer is the detector's on the memory that the state holds, and the words become those of the memory after it
 pub record IsTicked (s s′ : List ℕ) (t w a : ℕ) : Type 0 where
   pub range : t < ticks

@@ -17,9 +17,9 @@ use Rattle.watcher.specs.declared.Opening.the-variants as Opens
 use Rattle.watcher.specs.declared.Ticking.{Ticking}
 use Rattle.watcher.specs.declared.Ticking.the-variants as Ticks
 use Rattle.watcher.specs.declared.Feeding.{Feeding}
-use Rattle.watcher.specs.State.{InForm}
+use Rattle.watcher.specs.State.{roomOf, InForm}
 use Rattle.watcher.specs.Answer.{RoomAnswers, OpenAnswers, TickAnswers}
-use Rattle.watcher.specs.Walk.{formed}
+use Rattle.watcher.specs.Walk.{formed, extent}
 use Rattle.watcher.specs.declared.Feeding.the-variants.{Fed}
 use Rattle.watcher.specs.Feed.{paired, AllTicked, FeedAnswers}
 
@@ -50,6 +50,10 @@ StaysInForm = (b : List ℕ) (h : List Tick) (s : List ℕ) → Watched b h s �
 -- the form judged is the form stated
 abbrev pub FormedExactly : Type 0
 FormedExactly = (s : List ℕ) → (formed s ≡ true) ↔ InForm s
+
+-- the words counted are those of the state, and there are none exactly if it is not in form
+abbrev pub ExtentExactly : Type 0
+ExtentExactly = (s : List ℕ) → ((0 < extent s) ↔ InForm s) × ((f : InForm s) → extent s ≡ roomOf (f .pattern))
 
 -- no second answer and no second slice meet the promise of a tick
 abbrev pub OneTick : Type 0

@@ -4,8 +4,4 @@ pub mod Walk
 pub mod Form
 pub mod Feed
 pub mod Step
-pub mod Set
-pub mod SetFile
-pub mod SetCalls
 pub mod Claim
-pub mod SetClaim

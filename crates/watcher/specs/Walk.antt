@@ -1,5 +1,5 @@
 -- The walks over entries, as machines: a body's room, a state's form judged, and a tick; and the words that opening and a tick leave.
--- Inner contracts cite these, no public call does. Assumes nothing: these are definitions.
+-- Of these a public call cites `extent` alone; specs/Claim says what it means. Assumes nothing: these are definitions.
 use mathlib.Core.Bool.{Bool, true, false, cond}
 use mathlib.Core.List.{List, [], _∷_, _++_}
 use mathlib.Core.Option.{Option, none, some}

@@ -1,37 +1,11 @@
-// Whether a state is in form, and how many words it has.
+// The judge of a state: its entries, and each cell in turn.
 use body::Entry;
-use rules::MOST_ENTRIES;
 use rules::Op;
-use rules::TICKS;
 ghost use mathlib.Core.Path.{_≡_};
 ghost use Prim.Native.Nat.{_+_, _<_};
 ghost use lib.ListN.{length};
-ghost use Rattle.watcher.specs.Walk.{entryIn, extent};
+ghost use Rattle.watcher.specs.Walk.{entryIn};
 ghost use Rattle.watcher.specs.Form.{Entered, CellReady, CellEnds, judgedEnd};
-
-// The words of a state, 0 if it is not in form: the number of entries, their words, the next tick, a sound body, and every cell.
-pub(crate) fn extent(state: &[u64]) -> usize
-    ensures { λ r. ⌜ r ≡ extent (now (state .entry)) ⌝ }
-{
-    if state.len() < 3 {
-        return 0;
-    }
-    let count = state[0];
-    if count < 1 {
-        return 0;
-    }
-    if (MOST_ENTRIES as u64) < count {
-        return 0;
-    }
-    let n = count as usize;
-    if state.len() < 2 + n {
-        return 0;
-    }
-    if TICKS < state[1] {
-        return 0;
-    }
-    judged_end(state, n)
-}
 
 // Entry i of a state.
 pub(crate) fn entry_in(state: &[u64], i: usize) -> Entry
@@ -44,7 +18,7 @@ pub(crate) fn entry_in(state: &[u64], i: usize) -> Entry
 
 // Where the cells end, 0 if the entries are no sound body, or a cell is not there or not in form.
 // On the stack is p of each tree: a byte holds it, and of at most 63 entries there are at most 63 trees.
-fn judged_end(state: &[u64], n: usize) -> usize
+pub(crate) fn judged_end(state: &[u64], n: usize) -> usize
     requires { ⌜ Entered (now state) n ⌝ }
     ensures { λ r. ⌜ r ≡ judgedEnd (now (state .entry)) ⌝ }
 {
@@ -70,7 +44,7 @@ fn judged_end(state: &[u64], n: usize) -> usize
                 if end == 0 {
                     return 0;
                 }
-                possible[d - 2] = cell::possible_of(op, x, y) as u8;
+                possible[d - 2] = cell::possible_starts(op, x, y) as u8;
                 d -= 1;
                 at = end;
             }
@@ -90,11 +64,11 @@ fn cell_end(op: Op, state: &[u64], at: usize, y: u8) -> usize
     requires { ⌜ CellReady (now state) at ⌝ }
     ensures { λ r. ⌜ CellEnds (now (state .entry)) op at y r ⌝ }
 {
-    let end = at + cell::cell_words(op, y);
+    let end = at + cell::size(op, y);
     if state.len() < end {
         return 0;
     }
-    if cell::cell_fits(op, &state[at..end], state[1]) {
+    if cell::in_form(op, &state[at..end], state[1]) {
         return end;
     }
     0

@@ -1,6 +1,5 @@
 // The watcher: its state as words in a lent slice, opened from a body and moved by ticks.
 mod form;
-pub mod set;
 mod walk;
 
 use body::BodyCheck;
@@ -8,16 +7,18 @@ use body::Entry;
 use refusal::Refusal;
 use rules::ENTRY_BYTES;
 use rules::LAST_TICK;
+use rules::MOST_ENTRIES;
 use rules::Op;
+use rules::TICKS;
 ghost use mathlib.Core.Path.{_≡_};
 ghost use Prim.Native.Nat.{_+_, _*_, _≤_, _<_};
 ghost use lib.ListN.{length};
 ghost use Rattle.rules.specs.Limits.{argumentBytes};
 ghost use Rattle.body.specs.Entry.{opNumber};
 ghost use Rattle.body.specs.Check.{checkOf};
-ghost use Rattle.watcher.specs.Answer.{RoomAnswers, OpenAnswers, TickAnswers};
+ghost use Rattle.watcher.specs.Answer.{RoomAnswers, OpenAnswers, TickAnswers, TickReady, IsTicked};
 ghost use Rattle.watcher.specs.Feed.{FeedAnswers, firstFault};
-ghost use Rattle.watcher.specs.Walk.{cellsNeeded, wordsOpened};
+ghost use Rattle.watcher.specs.Walk.{cellsNeeded, wordsOpened, extent};
 ghost use Rattle.watcher.specs.State.{wordOf};
 ghost use Rattle.watcher.specs.Form.{Narrow, Put, wordsOf, zeros, OpenReady};
 
@@ -82,13 +83,13 @@ pub fn tick(state: &mut [u64], t: u64, events: u32) -> Ticking
     if LAST_TICK < t {
         return Ticking::Refused(Refusal::Range(0));
     }
-    if form::extent(state) == 0 {
+    if extent(state) == 0 {
         return Ticking::Refused(Refusal::State(0));
     }
     if t < state[1] {
         return Ticking::Refused(Refusal::Late(0));
     }
-    let answer = walk::step(state, t, events);
+    let answer = step(state, t, events);
     if answer == 0 {
         return Ticking::Nothing;
     }
@@ -107,7 +108,7 @@ pub fn feed(state: &mut [u64], ticks: &[u64], events: &[u32], answers: &mut [u64
     if answers.len() < ticks.len() {
         return Feeding::Refused(Refusal::Room(ticks.len()));
     }
-    if 0 < form::extent(state) {
+    if 0 < extent(state) {
         match first_fault(ticks, state[1]) {
             Feeding::Refused(r) => {
                 return Feeding::Refused(r);
@@ -119,6 +120,43 @@ pub fn feed(state: &mut [u64], ticks: &[u64], events: &[u32], answers: &mut [u64
         }
     }
     Feeding::Refused(Refusal::State(0))
+}
+
+// How many words the state at the front of a slice has, 0 if it is not in form.
+pub fn extent(state: &[u64]) -> usize
+    ensures { λ r. ⌜ r ≡ extent (now (state .entry)) ⌝ }
+{
+    if state.len() < 3 {
+        return 0;
+    }
+    let count = state[0];
+    if count < 1 {
+        return 0;
+    }
+    if (MOST_ENTRIES as u64) < count {
+        return 0;
+    }
+    let n = count as usize;
+    if state.len() < 2 + n {
+        return 0;
+    }
+    if TICKS < state[1] {
+        return 0;
+    }
+    form::judged_end(state, n)
+}
+
+// Takes a tick that the state is known to accept, and gives start + 1 of the window that ends at the tick, or 0 for none.
+// This is the call for crates that have judged the state themselves; all others call `tick`.
+// Arrays are cleared at each call, so a small pattern has small ones.
+pub fn step(state: &mut [u64], t: u64, events: u32) -> u64
+    requires { ⌜ TickReady (now state) t ⌝ }
+    ensures { λ r. ⌜ IsTicked (now (state .entry)) (now (state .exit)) t events r ⌝ }
+{
+    if state[0] < 16 {
+        return walk::step_small(state, t, events);
+    }
+    walk::step_large(state, t, events)
 }
 
 // The refusal of the first tick that is over the limit or below the next allowed.
@@ -227,8 +265,8 @@ fn cells_needed(body: &[u8]) -> usize
             Entry::Pair(op) => {
                 let y = possible[d - 1];
                 let x = possible[d - 2];
-                possible[d - 2] = cell::possible_of(op, x, y) as u8;
-                words += cell::cell_words(op, y);
+                possible[d - 2] = cell::possible_starts(op, x, y) as u8;
+                words += cell::size(op, y);
                 d -= 1;
             }
             Entry::Within(_) => {}

@@ -8,20 +8,8 @@ ghost use Rattle.rules.specs.Limits.{ticks};
 ghost use Rattle.watcher.specs.Walk.{letterAnswer, withinAnswer};
 ghost use Rattle.watcher.specs.Step.{StackFor, StepsReady, StepsDone, FeedReady, FeedDone, ownFrom, PairReady, PairDone};
 
-// Takes a tick t with its events and gives the answer: start + 1 of the window that ends at t, 0 for none.
-// The stack of a small pattern is small, and arrays are filled at each call, so it has smaller ones.
-pub(crate) fn step(state: &mut [u64], t: u64, events: u32) -> u64
-    requires { ⌜ StepsReady (now state) t ⌝ }
-    ensures { λ r. ⌜ StepsDone (now (state .entry)) t events (now (state .exit)) r ⌝ }
-{
-    if state[0] < 16 {
-        return step_small(state, t, events);
-    }
-    step_large(state, t, events)
-}
-
 // For up to 15 entries: at most 8 answers and 14 possible starts.
-fn step_small(state: &mut [u64], t: u64, events: u32) -> u64
+pub(crate) fn step_small(state: &mut [u64], t: u64, events: u32) -> u64
     requires { ⌜ StepsReady (now state) t × (getD (now state) 0 0 < 16) ⌝ }
     ensures { λ r. ⌜ StepsDone (now (state .entry)) t events (now (state .exit)) r ⌝ }
 {
@@ -32,7 +20,7 @@ fn step_small(state: &mut [u64], t: u64, events: u32) -> u64
 }
 
 // For up to 63 entries: at most 32 answers and 62 possible starts.
-fn step_large(state: &mut [u64], t: u64, events: u32) -> u64
+pub(crate) fn step_large(state: &mut [u64], t: u64, events: u32) -> u64
     requires { ⌜ StepsReady (now state) t ⌝ }
     ensures { λ r. ⌜ StepsDone (now (state .entry)) t events (now (state .exit)) r ⌝ }
 {
@@ -42,8 +30,9 @@ fn step_large(state: &mut [u64], t: u64, events: u32) -> u64
     step_over(state, t, events, &mut answers, &mut base, &mut starts)
 }
 
-// Steps the entries in order, with a stack in the arrays: the possible starts at place k are starts[base[k]..base[k + 1]]. They may be lent again.
-pub(crate) fn step_over(
+// Steps the entries in order, with a stack in the arrays: the possible starts at place k are starts[base[k]..base[k + 1]]. The arrays
+// may be used again for the next tick.
+fn step_over(
     state: &mut [u64],
     t: u64,
     events: u32,
@@ -147,9 +136,9 @@ fn pair(
     let x = answers[d - 1];
     let b = base[d];
     let top = base[d + 1];
-    let end = at + cell::cell_words(op, (top - b) as u8);
-    answers[d - 1] = cell::cell_step(op, &mut state[at..end], &starts[b..top], x, y, t as u32);
-    base[d] = cell::push_starts(op, &state[at..end], starts, own_from(op, b, top));
+    let end = at + cell::size(op, (top - b) as u8);
+    answers[d - 1] = cell::step(op, &mut state[at..end], &starts[b..top], x, y, t as u32);
+    base[d] = cell::put_starts(op, &state[at..end], starts, own_from(op, b, top));
     end
 }
 

@@ -1,7 +1,7 @@
 -- `mws::mws_set_open` meets its contract: the call's own promise, and the word of its answer. Assumes nothing.
 use mathlib.Core.Path.{refl, subst}
 use Rattle.watcher.specs.declared.Opening.the-variants.{Opened, Refused}
-use Rattle.watcher.specs.SetFile.{SetOpenAnswers}
+use Rattle.set.specs.File.{SetOpenAnswers}
 use borrow.Author.Needs.{needs}
 use Rattle.mws.proofs.mws_set_open.Statement.{statement}
 use Rattle.mws.proofs.mws_set_open.Tie as tie

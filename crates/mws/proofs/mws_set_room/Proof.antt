@@ -1,7 +1,7 @@
 -- `mws::mws_set_room` meets its contract: the call's own promise, and the word of its answer. Assumes nothing.
 use mathlib.Core.Path.{refl, subst}
 use Rattle.watcher.specs.declared.Needed.the-variants.{Words, Refused}
-use Rattle.watcher.specs.SetFile.{SetRoomAnswers}
+use Rattle.set.specs.File.{SetRoomAnswers}
 use borrow.Author.Needs.{needs}
 use Rattle.mws.proofs.mws_set_room.Statement.{statement}
 use Rattle.mws.proofs.mws_set_room.Tie as tie

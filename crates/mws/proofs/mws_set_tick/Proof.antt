@@ -1,7 +1,7 @@
 -- `mws::mws_set_tick` meets its contract: the call's own promise, and the word of its answer. Assumes nothing.
 use mathlib.Core.Path.{refl, subst}
-use Rattle.watcher.specs.declared.set.SetTicking.the-variants.{Ticked, Refused}
-use Rattle.watcher.specs.Set.{SetAnswers}
+use Rattle.set.specs.declared.SetTicking.the-variants.{Ticked, Refused}
+use Rattle.set.specs.Set.{SetAnswers}
 use borrow.Author.Needs.{needs}
 use Rattle.mws.proofs.mws_set_tick.Statement.{statement}
 use Rattle.mws.proofs.mws_set_tick.Tie as tie

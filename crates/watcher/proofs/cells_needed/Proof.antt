@@ -94,8 +94,8 @@ sub-x c = omega (arith, two c)
 array-read-x : tie.Need-array-read-x Inv-loop μ-loop
 array-read-x c = omega (arith, two c)
 
-possible-of-requires : tie.Need-possible-of-requires Inv-loop μ-loop
-possible-of-requires c κs = search needs
+possible-starts-requires : tie.Need-possible-starts-requires Inv-loop μ-loop
+possible-starts-requires c κs = search needs
 
 cast-possible : tie.Need-cast-possible Inv-loop μ-loop
 cast-possible c =
@@ -103,7 +103,7 @@ cast-possible c =
     omega (
       arith,
       small (c .before),
-      c .possible-of .ensures,
+      c .possible-starts .ensures,
       possible-le (c .before .before .entry .given .0 .0) (getD (l .possible) (l .d - 2) 0) (getD (l .possible) (l .d - 1) 0),
     )
 
@@ -113,8 +113,8 @@ sub-possible c = omega (arith, two (c .before))
 array-write-possible-2 : tie.Need-array-write-possible-2 Inv-loop μ-loop
 array-write-possible-2 c = omega (arith, two (c .before))
 
-cell-words-requires : tie.Need-cell-words-requires Inv-loop μ-loop
-cell-words-requires c κs = search needs
+size-requires : tie.Need-size-requires Inv-loop μ-loop
+size-requires c κs = search needs
 
 add-words : tie.Need-add-words Inv-loop μ-loop
 add-words c =
@@ -123,7 +123,7 @@ add-words c =
     let x = l .inv .3 in
     let q = pair-entry k in
     let s = pair-stack (l .possible) (l .d) (l .inv .2) (x .piled) (omega arith) (x .most) _ q in
-    omega (arith, rooming-pair (rw s at x) (omega arith) _ q .small, x .most, c .cell-words .ensures)
+    omega (arith, rooming-pair (rw s at x) (omega arith) _ q .small, x .most, c .size .ensures)
 
 sub-d : tie.Need-sub-d Inv-loop μ-loop
 sub-d c = omega (arith, two (c .before .before))
@@ -140,8 +140,8 @@ loop-again-2 c =
     let s = pair-stack (l .possible) (l .d) (l .inv .2) (x .piled) (omega arith) (x .most) _ q in (
       omega arith,
       omega arith,
-      length-set (l .possible) (l .d - 2) (c .before .possible-of .result) ∙ l .inv .2,
-      rw (pair-set (l .possible) (l .d) (l .inv .2) (x .piled) (omega arith) (x .most) _ q (c .before .possible-of .result), c .before .possible-of .ensures, c .cell-words .ensures)
+      length-set (l .possible) (l .d - 2) (c .before .possible-starts .result) ∙ l .inv .2,
+      rw (pair-set (l .possible) (l .d) (l .inv .2) (x .piled) (omega arith) (x .most) _ q (c .before .possible-starts .result), c .before .possible-starts .ensures, c .size .ensures)
           (rooming-pair (rw s at x) (omega arith) _ q),
     )
 
@@ -191,11 +191,11 @@ cells-needed-spec =
     array-read-y
     sub-x
     array-read-x
-    possible-of-requires
+    possible-starts-requires
     cast-possible
     sub-possible
     array-write-possible-2
-    cell-words-requires
+    size-requires
     add-words
     sub-d
     loop-less-2

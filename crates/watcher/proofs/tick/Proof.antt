@@ -5,8 +5,7 @@ use native.Mathlib.Omega.{arith}
 use borrow.Author.Needs.{needs}
 use Rattle.watcher.specs.Walk.{formed}
 use Rattle.watcher.proofs.Judges.{formed-judged, extent-formed, extent-broken}
-use Rattle.watcher.proofs.Calls.{refused-form, refused-late, refused-range}
-use Rattle.watcher.proofs.Ways.{ticked-nothing, ticked-window}
+use Rattle.watcher.proofs.Calls.{tick-ready, ticked-nothing, ticked-window, refused-form, refused-late, refused-range}
 use Rattle.watcher.proofs.tick.Statement.{statement}
 use Rattle.watcher.proofs.tick.Tie as tie
 
@@ -36,15 +35,13 @@ returns-3 : tie.Need-returns-3
 returns-3 c = (refused-late _ _ (omega arith) (form (c .before)) (omega arith), refl)
 
 step-requires : tie.Need-step-requires
-step-requires c κs = record { form = form (c .before .before); late = omega arith; range = omega arith }
+step-requires c κs = tick-ready (omega arith) (form (c .before .before)) (omega arith)
 
 same-length-3 : tie.Need-same-length-3
 same-length-3 c = search needs
 
 returns-4 : tie.Need-returns-4
-returns-4 c =
-    let s = c .before .before .before in
-    ticked-nothing _ _ _ _ _ (omega arith) (form (s .before .before .before)) (omega arith) (s .step .ensures) (c .if4 .taken)
+returns-4 c = ticked-nothing (c .before .before .before .step .ensures) (c .if4 .taken)
 
 sub-t12 : tie.Need-sub-t12
 sub-t12 c = search needs
@@ -53,9 +50,7 @@ same-length-4 : tie.Need-same-length-4
 same-length-4 c = search needs
 
 returns-5 : tie.Need-returns-5
-returns-5 c =
-    let s = c .before .before .before in
-    ticked-window _ _ _ _ _ (omega arith) (form (s .before .before .before)) (omega arith) (s .step .ensures) (c .if4 .left)
+returns-5 c = ticked-window (c .before .before .before .step .ensures) (c .if4 .left)
 
 pub tick-spec : {M : Type 1} → statement M
 tick-spec =

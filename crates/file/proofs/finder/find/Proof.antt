@@ -43,40 +43,26 @@ part-is-same-end c = search needs
 is-same-requires : tie.Need-is-same-requires Inv-loop μ-loop
 is-same-requires c κs = search needs
 
-sub-offset-of : tie.Need-sub-offset-of Inv-loop μ-loop
-sub-offset-of c = search needs
+sub-place-in : tie.Need-sub-place-in Inv-loop μ-loop
+sub-place-in c = search needs
 
-part-offset-of-start : tie.Need-part-offset-of-start Inv-loop μ-loop
-part-offset-of-start c = search needs
+part-place-in-start : tie.Need-part-place-in-start Inv-loop μ-loop
+part-place-in-start c = search needs
 
-part-offset-of-end : tie.Need-part-offset-of-end Inv-loop μ-loop
-part-offset-of-end c = search needs
+part-place-in-end : tie.Need-part-place-in-end Inv-loop μ-loop
+part-place-in-end c = search needs
 
-offset-of-requires : tie.Need-offset-of-requires Inv-loop μ-loop
-offset-of-requires c κs =
+place-in-requires : tie.Need-place-in-requires Inv-loop μ-loop
+place-in-requires c κs =
     let k = c .before .before .before .before .before in
     let f = k .before .before .before .before .before .args .file .now in
     rw (drop-part f (k .loop .at), length-drop (k .loop .at) f) (omega arith)
 
-add-wide : tie.Need-add-wide Inv-loop μ-loop
-add-wide c = search needs
-
-shared-slice-read-wide-2 : tie.Need-shared-slice-read-wide-2 Inv-loop μ-loop
-shared-slice-read-wide-2 c = search needs
-
-wide-requires-2 : tie.Need-wide-requires-2 Inv-loop μ-loop
-wide-requires-2 c κs = search needs
-
-mul-t24 : tie.Need-mul-t24 Inv-loop μ-loop
-mul-t24 c = search needs
-
 returns : tie.Need-returns Inv-loop μ-loop
 returns c =
-    let o = c .before .before in
-    let t = o .before .before in
+    let t = c .before .before in
     let k = t .before .before .before .before in
-    sought-here (k .loop .inv) (omega (arith, k .loop .inv)) (sym (t .before .is-same .ensures) ∙ t .if1 .taken) (o .offset-of .ensures)
-    (c .wide2 .ensures .0)
+    sought-here (k .loop .inv) (omega (arith, k .loop .inv)) (sym (t .before .is-same .ensures) ∙ t .if1 .taken) (c .place-in .ensures)
 
 add-at : tie.Need-add-at Inv-loop μ-loop
 add-at c = search needs
@@ -108,14 +94,10 @@ find-spec =
     part-is-same-start
     part-is-same-end
     is-same-requires
-    sub-offset-of
-    part-offset-of-start
-    part-offset-of-end
-    offset-of-requires
-    add-wide
-    shared-slice-read-wide-2
-    wide-requires-2
-    mul-t24
+    sub-place-in
+    part-place-in-start
+    part-place-in-end
+    place-in-requires
     returns
     add-at
     add-i

@@ -127,8 +127,8 @@ returns-2 c =
     judging-broken (judging-popped (l .possible) (l .d) (l .inv .2) (omega arith)) (early j) _ (pair-entry (k .before)) _
     (c .if2 .taken) (c .before .cell-end .ensures)
 
-possible-of-requires : tie.Need-possible-of-requires Inv-loop μ-loop
-possible-of-requires c κs = search needs
+possible-starts-requires : tie.Need-possible-starts-requires Inv-loop μ-loop
+possible-starts-requires c κs = search needs
 
 cast-possible : tie.Need-cast-possible Inv-loop μ-loop
 cast-possible c =
@@ -137,7 +137,7 @@ cast-possible c =
     omega (
       arith,
       small k,
-      c .possible-of .ensures,
+      c .possible-starts .ensures,
       possible-le (k .before .before .entry .given .0 .0) (getD (l .possible) (l .d - 2) 0) (getD (l .possible) (l .d - 1) 0),
     )
 
@@ -155,10 +155,10 @@ loop-again-2 c =
     let k = c .before .before .before in
     let j = k .before .before .before .before .before in
     let l = j .before .loop in
-    let v = c .possible-of .result in (
+    let v = c .possible-starts .result in (
       omega arith,
       length-set (l .possible) (l .d - 2) v ∙ l .inv .1,
-      rw (stack-set2 (l .possible) (l .d) v (omega arith) (omega (arith, deep j, l .inv .1)), c .possible-of .ensures)
+      rw (stack-set2 (l .possible) (l .d) v (omega arith) (omega (arith, deep j, l .inv .1)), c .possible-starts .ensures)
           (judging-pair (judging-popped (l .possible) (l .d) (l .inv .2) (omega arith)) (early j) _ (pair-entry (k .before)) _
           (c .before .if2 .left) (c .before .before .cell-end .ensures)),
     )
@@ -228,7 +228,7 @@ judged-end-spec =
     array-read-x
     cell-end-requires
     returns-2
-    possible-of-requires
+    possible-starts-requires
     cast-possible
     array-write-possible-2
     sub-d

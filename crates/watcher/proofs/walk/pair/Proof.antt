@@ -34,47 +34,47 @@ mul-top c = search needs
 slice-read-top : tie.Need-slice-read-top
 slice-read-top c = search needs
 
-sub-cell-words : tie.Need-sub-cell-words
-sub-cell-words c = search needs
+sub-size : tie.Need-sub-size
+sub-size c = search needs
 
-cast-cell-words : tie.Need-cast-cell-words
-cast-cell-words c = search needs
+cast-size : tie.Need-cast-size
+cast-size c = search needs
 
-cell-words-requires : tie.Need-cell-words-requires
-cell-words-requires c κs = search needs
+size-requires : tie.Need-size-requires
+size-requires c κs = search needs
 
 add-end : tie.Need-add-end
 add-end c = search needs
 
-mul-cell-step : tie.Need-mul-cell-step
-mul-cell-step c = search needs
+mul-step : tie.Need-mul-step
+mul-step c = search needs
 
-sub-cell-step : tie.Need-sub-cell-step
-sub-cell-step c = search needs
+sub-step : tie.Need-sub-step
+sub-step c = search needs
 
-part-cell-step-start : tie.Need-part-cell-step-start
-part-cell-step-start c = search needs
+part-step-start : tie.Need-part-step-start
+part-step-start c = search needs
 
-part-cell-step-end : tie.Need-part-cell-step-end
-part-cell-step-end c = search needs
+part-step-end : tie.Need-part-step-end
+part-step-end c = search needs
 
-mul-cell-step-2 : tie.Need-mul-cell-step-2
-mul-cell-step-2 c = search needs
+mul-step-2 : tie.Need-mul-step-2
+mul-step-2 c = search needs
 
-sub-cell-step-2 : tie.Need-sub-cell-step-2
-sub-cell-step-2 c = search needs
+sub-step-2 : tie.Need-sub-step-2
+sub-step-2 c = search needs
 
-part-cell-step-start-2 : tie.Need-part-cell-step-start-2
-part-cell-step-start-2 c = search needs
+part-step-start-2 : tie.Need-part-step-start-2
+part-step-start-2 c = search needs
 
-part-cell-step-end-2 : tie.Need-part-cell-step-end-2
-part-cell-step-end-2 c = search needs
+part-step-end-2 : tie.Need-part-step-end-2
+part-step-end-2 c = search needs
 
-cast-cell-step : tie.Need-cast-cell-step
-cast-cell-step c = search needs
+cast-step : tie.Need-cast-step
+cast-step c = search needs
 
-cell-step-requires : tie.Need-cell-step-requires
-cell-step-requires c κs = search needs
+step-requires : tie.Need-step-requires
+step-requires c κs = search needs
 
 sub-answers : tie.Need-sub-answers
 sub-answers c = search needs
@@ -85,23 +85,23 @@ mul-answers c = search needs
 slice-write-answers : tie.Need-slice-write-answers
 slice-write-answers c = search needs
 
-mul-push-starts : tie.Need-mul-push-starts
-mul-push-starts c = search needs
+mul-put-starts : tie.Need-mul-put-starts
+mul-put-starts c = search needs
 
-sub-push-starts : tie.Need-sub-push-starts
-sub-push-starts c = search needs
+sub-put-starts : tie.Need-sub-put-starts
+sub-put-starts c = search needs
 
-part-push-starts-start : tie.Need-part-push-starts-start
-part-push-starts-start c = search needs
+part-put-starts-start : tie.Need-part-put-starts-start
+part-put-starts-start c = search needs
 
-part-push-starts-end : tie.Need-part-push-starts-end
-part-push-starts-end c = search needs
+part-put-starts-end : tie.Need-part-put-starts-end
+part-put-starts-end c = search needs
 
 own-from-requires : tie.Need-own-from-requires
 own-from-requires c κs = search needs
 
-push-starts-requires : tie.Need-push-starts-requires
-push-starts-requires c κs = search needs
+put-starts-requires : tie.Need-put-starts-requires
+put-starts-requires c κs = search needs
 
 mul-base : tie.Need-mul-base
 mul-base c = search needs
@@ -127,8 +127,8 @@ returns c =
     let k = f .before .before .before .before .before .before in
     let w = k .before .before .before .before in
     let z = w .before .before .before .before .before .before .before .before .before in
-    pair-done (z .pre) (w .cell-words .result) (w .cell-words .ensures) (k .cell-step .ensures) (f .own-from .ensures)
-    (c .before .before .push-starts .ensures)
+    pair-done (z .pre) (w .size .result) (w .size .ensures) (k .step .ensures) (f .own-from .ensures)
+    (c .before .before .put-starts .ensures)
 
 pub pair-spec : {M : Type 1} → statement M
 pair-spec =
@@ -144,29 +144,29 @@ pair-spec =
     add-top
     mul-top
     slice-read-top
-    sub-cell-words
-    cast-cell-words
-    cell-words-requires
+    sub-size
+    cast-size
+    size-requires
     add-end
-    mul-cell-step
-    sub-cell-step
-    part-cell-step-start
-    part-cell-step-end
-    mul-cell-step-2
-    sub-cell-step-2
-    part-cell-step-start-2
-    part-cell-step-end-2
-    cast-cell-step
-    cell-step-requires
+    mul-step
+    sub-step
+    part-step-start
+    part-step-end
+    mul-step-2
+    sub-step-2
+    part-step-start-2
+    part-step-end-2
+    cast-step
+    step-requires
     sub-answers
     mul-answers
     slice-write-answers
-    mul-push-starts
-    sub-push-starts
-    part-push-starts-start
-    part-push-starts-end
+    mul-put-starts
+    sub-put-starts
+    part-put-starts-start
+    part-put-starts-end
     own-from-requires
-    push-starts-requires
+    put-starts-requires
     mul-base
     slice-write-base
     same-length

@@ -1,0 +1,4 @@
+pub mod Set
+pub mod File
+pub mod Calls
+pub mod Claim
