@@ -6,17 +6,8 @@ use borrow.Author.Needs.{needs}
 use Rattle.mws.proofs.mws_body_check.Statement.{statement}
 use Rattle.mws.proofs.mws_body_check.Tie as tie
 
-check-body-requires : tie.Need-check-body-requires
-check-body-requires c κs = search needs
-
 enum-told : tie.Need-enum-told
 enum-told c = search needs
-
-enum-known-r : tie.Need-enum-known-r
-enum-known-r c = search needs
-
-packed-requires : tie.Need-packed-requires
-packed-requires c κs = search needs
 
 returns : tie.Need-returns
 returns c = ap (λ (r : BodyCheck). statusOf (checked r)) (sym (c .enum-told .given .1) ∙ c .before .before .check-body .ensures)
@@ -27,4 +18,4 @@ returns-2 c = c .packed .ensures ∙ ap (λ (r : BodyCheck). statusOf (checked r
 pub mws-body-check-spec : {M : Type 1} → statement M
 mws-body-check-spec =
     tie.close
-    (tie.spec check-body-requires enum-told enum-known-r packed-requires returns returns-2)
+    (tie.spec (λ c κs. search needs) enum-told (λ c. search needs) (λ c κs. search needs) returns returns-2)

@@ -6,17 +6,8 @@ use borrow.Author.Needs.{needs}
 use Rattle.mws.proofs.mws_file_check.Statement.{statement}
 use Rattle.mws.proofs.mws_file_check.Tie as tie
 
-check-file-requires : tie.Need-check-file-requires
-check-file-requires c κs = search needs
-
 enum-told : tie.Need-enum-told
 enum-told c = search needs
-
-enum-known-r : tie.Need-enum-known-r
-enum-known-r c = search needs
-
-packed-requires : tie.Need-packed-requires
-packed-requires c κs = search needs
 
 returns : tie.Need-returns
 returns c = ap (λ (r : FileCheck). statusOf (filed r)) (sym (c .enum-told .given .1) ∙ c .before .before .check-file .ensures)
@@ -27,4 +18,4 @@ returns-2 c = c .packed .ensures ∙ ap (λ (r : FileCheck). statusOf (filed r))
 pub mws-file-check-spec : {M : Type 1} → statement M
 mws-file-check-spec =
     tie.close
-    (tie.spec check-file-requires enum-told enum-known-r packed-requires returns returns-2)
+    (tie.spec (λ c κs. search needs) enum-told (λ c. search needs) (λ c κs. search needs) returns returns-2)

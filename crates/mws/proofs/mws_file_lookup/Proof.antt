@@ -6,33 +6,9 @@ use borrow.Author.Needs.{needs}
 use Rattle.mws.proofs.mws_file_lookup.Statement.{statement}
 use Rattle.mws.proofs.mws_file_lookup.Tie as tie
 
-looked-up-requires : tie.Need-looked-up-requires
-looked-up-requires c κs = search needs
-
-enum-known-whose : tie.Need-enum-known-whose
-enum-known-whose c = search needs
-
-file-bits-requires : tie.Need-file-bits-requires
-file-bits-requires c κs = search needs
-
-enum-known-whose-2 : tie.Need-enum-known-whose-2
-enum-known-whose-2 c = search needs
-
-file-bits-requires-2 : tie.Need-file-bits-requires-2
-file-bits-requires-2 c κs = search needs
-
-packed-requires : tie.Need-packed-requires
-packed-requires c κs = search needs
-
 add-result : tie.Need-add-result
 add-result c =
     omega (arith, c .before .file-bits2 .ensures .1, c .packed .ensures, unpacks (c .before .before .before .whose2 .given .0 .1 .0) .free)
-
-enum-known-r : tie.Need-enum-known-r
-enum-known-r c = search needs
-
-packed-requires-2 : tie.Need-packed-requires-2
-packed-requires-2 c κs = search needs
 
 returns : tie.Need-returns
 returns c =
@@ -56,15 +32,15 @@ pub mws-file-lookup-spec : {M : Type 1} → statement M
 mws-file-lookup-spec =
     tie.close
     (tie.spec
-    looked-up-requires
-    enum-known-whose
-    file-bits-requires
-    enum-known-whose-2
-    file-bits-requires-2
-    packed-requires
+    (λ c κs. search needs)
+    (λ c. search needs)
+    (λ c κs. search needs)
+    (λ c. search needs)
+    (λ c κs. search needs)
+    (λ c κs. search needs)
     add-result
-    enum-known-r
-    packed-requires-2
+    (λ c. search needs)
+    (λ c κs. search needs)
     returns
     returns-2
     returns-3)

@@ -6,28 +6,10 @@ use borrow.Author.Needs.{needs}
 use Rattle.mws.proofs.mws_file_write.Statement.{statement}
 use Rattle.mws.proofs.mws_file_write.Tie as tie
 
-write-file-requires : tie.Need-write-file-requires
-write-file-requires c κs = search needs
-
-enum-known-bytes : tie.Need-enum-known-bytes
-enum-known-bytes c = search needs
-
-enum-known-r : tie.Need-enum-known-r
-enum-known-r c = search needs
-
-packed-requires : tie.Need-packed-requires
-packed-requires c κs = search needs
-
-same-length : tie.Need-same-length
-same-length c = search needs
-
 returns : tie.Need-returns
 returns c =
     let a = c .before .before .before .before .before in
     record { answer = Written (c .before .bytes .given .0 .0); promise = subst (Wrote _ _ _ _ _) (c .before .bytes .given .1) (a .write-file .ensures); lent = refl; word = refl }
-
-same-length-2 : tie.Need-same-length-2
-same-length-2 c = search needs
 
 returns-2 : tie.Need-returns-2
 returns-2 c =
@@ -38,11 +20,11 @@ pub mws-file-write-spec : {M : Type 1} → statement M
 mws-file-write-spec =
     tie.close
     (tie.spec
-    write-file-requires
-    enum-known-bytes
-    enum-known-r
-    packed-requires
-    same-length
+    (λ c κs. search needs)
+    (λ c. search needs)
+    (λ c. search needs)
+    (λ c κs. search needs)
+    (λ c. search needs)
     returns
-    same-length-2
+    (λ c. search needs)
     returns-2)

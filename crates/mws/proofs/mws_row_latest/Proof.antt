@@ -7,20 +7,8 @@ use borrow.Author.Needs.{needs}
 use Rattle.mws.proofs.mws_row_latest.Statement.{statement}
 use Rattle.mws.proofs.mws_row_latest.Tie as tie
 
-latest-start-requires : tie.Need-latest-start-requires
-latest-start-requires c κs = search needs
-
 enum-told : tie.Need-enum-told
 enum-told c = search needs
-
-enum-known-s : tie.Need-enum-known-s
-enum-known-s c = search needs
-
-cast-result : tie.Need-cast-result
-cast-result c = search needs
-
-add-result : tie.Need-add-result
-add-result c = search needs
 
 returns : tie.Need-returns
 returns c = record { start = Nowhere; promise = subst (IsLatest _) (c .enum-told .given .1) (c .before .before .latest-start .ensures); number = refl }
@@ -32,10 +20,10 @@ pub mws-row-latest-spec : {M : Type 1} → statement M
 mws-row-latest-spec =
     tie.close
     (tie.spec
-    latest-start-requires
+    (λ c κs. search needs)
     enum-told
-    enum-known-s
-    cast-result
-    add-result
+    (λ c. search needs)
+    (λ c. search needs)
+    (λ c. search needs)
     returns
     returns-2)

@@ -6,21 +6,6 @@ use borrow.Author.Needs.{needs}
 use Rattle.mws.proofs.mws_tally_add.Statement.{statement}
 use Rattle.mws.proofs.mws_tally_add.Tie as tie
 
-element-copy-out-t7 : tie.Need-element-copy-out-t7
-element-copy-out-t7 c = search needs
-
-element-copy-out-t10 : tie.Need-element-copy-out-t10
-element-copy-out-t10 c = search needs
-
-settled-requires : tie.Need-settled-requires
-settled-requires c κs = search needs
-
-element-write-tally : tie.Need-element-write-tally
-element-write-tally c = search needs
-
-element-write-tally-2 : tie.Need-element-write-tally-2
-element-write-tally-2 c = search needs
-
 returns : tie.Need-returns
 returns c =
     record {
@@ -32,9 +17,9 @@ pub mws-tally-add-spec : {M : Type 1} → statement M
 mws-tally-add-spec =
     tie.close
     (tie.spec
-    element-copy-out-t7
-    element-copy-out-t10
-    settled-requires
-    element-write-tally
-    element-write-tally-2
+    (λ c. search needs)
+    (λ c. search needs)
+    (λ c κs. search needs)
+    (λ c. search needs)
+    (λ c. search needs)
     returns)

@@ -6,18 +6,6 @@ use borrow.Author.Needs.{needs}
 use Rattle.mws.proofs.mws_watch_room.Statement.{statement}
 use Rattle.mws.proofs.mws_watch_room.Tie as tie
 
-room-requires : tie.Need-room-requires
-room-requires c κs = search needs
-
-enum-known-n : tie.Need-enum-known-n
-enum-known-n c = search needs
-
-enum-known-r : tie.Need-enum-known-r
-enum-known-r c = search needs
-
-packed-requires : tie.Need-packed-requires
-packed-requires c κs = search needs
-
 returns : tie.Need-returns
 returns c =
     let a = c .before .before .before in
@@ -30,4 +18,4 @@ returns-2 c =
 
 pub mws-watch-room-spec : {M : Type 1} → statement M
 mws-watch-room-spec =
-    tie.close (tie.spec room-requires enum-known-n enum-known-r packed-requires returns returns-2)
+    tie.close (tie.spec (λ c κs. search needs) (λ c. search needs) (λ c. search needs) (λ c κs. search needs) returns returns-2)

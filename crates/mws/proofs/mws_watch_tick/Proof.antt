@@ -8,12 +8,6 @@ use borrow.Author.Needs.{needs}
 use Rattle.mws.proofs.mws_watch_tick.Statement.{statement}
 use Rattle.mws.proofs.mws_watch_tick.Tie as tie
 
-tick-requires : tie.Need-tick-requires
-tick-requires c κs = search needs
-
-enum-known-start : tie.Need-enum-known-start
-enum-known-start c = search needs
-
 add-answer : tie.Need-add-answer
 add-answer c =
     let a = c .before .before .before .before .before in
@@ -24,30 +18,15 @@ add-answer c =
 enum-told : tie.Need-enum-told
 enum-told c = search needs
 
-enum-known-r : tie.Need-enum-known-r
-enum-known-r c = search needs
-
-packed-requires : tie.Need-packed-requires
-packed-requires c κs = search needs
-
-same-length : tie.Need-same-length
-same-length c = search needs
-
 returns : tie.Need-returns
 returns c =
     let a = c .before .before .before .before .before in
     record { answer = Window (c .before .start .given .0 .0); promise = subst (TickAnswers _ _ _ _) (c .before .start .given .1) (a .tick .ensures); lent = omega arith; word = refl }
 
-same-length-2 : tie.Need-same-length-2
-same-length-2 c = search needs
-
 returns-2 : tie.Need-returns-2
 returns-2 c =
     let a = c .before .before .before .before in
     record { answer = Nothing; promise = subst (TickAnswers _ _ _ _) (c .enum-told .given .1) (a .tick .ensures); lent = refl; word = refl }
-
-same-length-3 : tie.Need-same-length-3
-same-length-3 c = search needs
 
 returns-3 : tie.Need-returns-3
 returns-3 c =
@@ -58,15 +37,15 @@ pub mws-watch-tick-spec : {M : Type 1} → statement M
 mws-watch-tick-spec =
     tie.close
     (tie.spec
-    tick-requires
-    enum-known-start
+    (λ c κs. search needs)
+    (λ c. search needs)
     add-answer
     enum-told
-    enum-known-r
-    packed-requires
-    same-length
+    (λ c. search needs)
+    (λ c κs. search needs)
+    (λ c. search needs)
     returns
-    same-length-2
+    (λ c. search needs)
     returns-2
-    same-length-3
+    (λ c. search needs)
     returns-3)

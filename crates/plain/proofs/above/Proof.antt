@@ -6,23 +6,8 @@ use borrow.Author.Needs.{needs}
 use Rattle.plain.proofs.above.Statement.{statement}
 use Rattle.plain.proofs.above.Tie as tie
 
-latest-start-requires : tie.Need-latest-start-requires
-latest-start-requires c κs = search needs
-
 enum-told : tie.Need-enum-told
 enum-told c = search needs
-
-enum-known-l : tie.Need-enum-known-l
-enum-known-l c = search needs
-
-cast-from : tie.Need-cast-from
-cast-from c = search needs
-
-add-from : tie.Need-add-from
-add-from c = search needs
-
-from-requires : tie.Need-from-requires
-from-requires c κs = search needs
 
 returns : tie.Need-returns
 returns c = above-none _ _ (subst (IsLatest _) (c .enum-told .given .1) (c .before .before .latest-start .ensures))
@@ -36,11 +21,11 @@ pub above-spec : {M : Type 1} → statement M
 above-spec =
     tie.close
     (tie.spec
-    latest-start-requires
+    (λ c κs. search needs)
     enum-told
-    enum-known-l
-    cast-from
-    add-from
-    from-requires
+    (λ c. search needs)
+    (λ c. search needs)
+    (λ c. search needs)
+    (λ c κs. search needs)
     returns
     returns-2)

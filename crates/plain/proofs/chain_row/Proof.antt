@@ -8,20 +8,8 @@ use borrow.Author.Needs.{needs}
 use Rattle.plain.proofs.chain_row.Statement.{statement}
 use Rattle.plain.proofs.chain_row.Tie as tie
 
-latest-start-requires : tie.Need-latest-start-requires
-latest-start-requires c κs = search needs
-
 enum-told : tie.Need-enum-told
 enum-told c = search needs
-
-enum-known-u : tie.Need-enum-known-u
-enum-known-u c = search needs
-
-cast-result : tie.Need-cast-result
-cast-result c = search needs
-
-mul-result : tie.Need-mul-result
-mul-result c = search needs
 
 shared-slice-read-result : tie.Need-shared-slice-read-result
 shared-slice-read-result c =
@@ -49,11 +37,11 @@ pub chain-row-spec : {M : Type 1} → statement M
 chain-row-spec =
     tie.close
     (tie.spec
-    latest-start-requires
+    (λ c κs. search needs)
     enum-told
-    enum-known-u
-    cast-result
-    mul-result
+    (λ c. search needs)
+    (λ c. search needs)
+    (λ c. search needs)
     shared-slice-read-result
     returns
     returns-2)

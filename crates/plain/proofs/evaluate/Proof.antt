@@ -14,12 +14,6 @@ use Rattle.plain.proofs.evaluate.Tie as tie
 sound : (c : tie.After-enum-told) → checkOf argumentBytes (c .before .before .before .before .before .before .args .body .now) ≡ Checked.Sound
 sound c = sym (c .before .before .check-body .ensures) ∙ c .enum-told .given .1
 
-check-body-requires : tie.Need-check-body-requires
-check-body-requires c κs = search needs
-
-enum-known-r : tie.Need-enum-known-r
-enum-known-r c = search needs
-
 enum-told : tie.Need-enum-told
 enum-told c = search needs
 
@@ -40,9 +34,6 @@ fill-rows-requires c κs = record { sound = sound (c .before .before .before); s
 returns-3 : tie.Need-returns-3
 returns-3 c = body-refused _ _ _ _ (sym (c .before .before .before .check-body .ensures) ∙ c .before .r .given .1)
 
-same-length : tie.Need-same-length
-same-length c = search needs
-
 returns-4 : tie.Need-returns-4
 returns-4 c =
     let f = c .before .before in
@@ -52,13 +43,13 @@ pub evaluate-spec : {M : Type 1} → statement M
 evaluate-spec =
     tie.close
     (tie.spec
-    check-body-requires
-    enum-known-r
+    (λ c κs. search needs)
+    (λ c. search needs)
     enum-told
     returns
     mul-needed
     returns-2
     fill-rows-requires
     returns-3
-    same-length
+    (λ c. search needs)
     returns-4)

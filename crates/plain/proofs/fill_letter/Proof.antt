@@ -17,35 +17,8 @@ Inv-loop rows₀ events kind k at e₀ rows e = Made (Occurs (worded events) kin
 abbrev μ-loop : tie.MeasureT-loop
 μ-loop rows₀ events kind k at e₀ rows e = 64 - e
 
-mul-at : tie.Need-mul-at Inv-loop μ-loop
-mul-at c = omega arith
-
 loop-holds : tie.Need-loop-holds Inv-loop μ-loop
 loop-holds c = made-none _ _ _
-
-mul-letter-row : tie.Need-mul-letter-row Inv-loop μ-loop
-mul-letter-row c = omega arith
-
-shared-slice-read-letter-row : tie.Need-shared-slice-read-letter-row Inv-loop μ-loop
-shared-slice-read-letter-row c = omega arith
-
-letter-row-requires : tie.Need-letter-row-requires Inv-loop μ-loop
-letter-row-requires c κs = omega arith
-
-add-rows : tie.Need-add-rows Inv-loop μ-loop
-add-rows c = omega arith
-
-mul-rows : tie.Need-mul-rows Inv-loop μ-loop
-mul-rows c = omega arith
-
-slice-write-rows : tie.Need-slice-write-rows Inv-loop μ-loop
-slice-write-rows c = omega arith
-
-add-e : tie.Need-add-e Inv-loop μ-loop
-add-e c = omega arith
-
-loop-less : tie.Need-loop-less Inv-loop μ-loop
-loop-less c = omega arith
 
 loop-again : tie.Need-loop-again Inv-loop μ-loop
 loop-again c =
@@ -67,16 +40,16 @@ fill-letter-spec =
     (tie.spec
     Inv-loop
     μ-loop
-    mul-at
+    (λ c. omega arith)
     loop-holds
-    mul-letter-row
-    shared-slice-read-letter-row
-    letter-row-requires
-    add-rows
-    mul-rows
-    slice-write-rows
-    add-e
-    loop-less
+    (λ c. omega arith)
+    (λ c. omega arith)
+    (λ c κs. omega arith)
+    (λ c. omega arith)
+    (λ c. omega arith)
+    (λ c. omega arith)
+    (λ c. omega arith)
+    (λ c. omega arith)
     loop-again
     same-length
     returns)

@@ -16,47 +16,8 @@ Inv-loop rows₀ op x y k left right from to at e₀ rows e = Made (Rule op (Sho
 abbrev μ-loop : tie.MeasureT-loop
 μ-loop rows₀ op x y k left right from to at e₀ rows e = 64 - e
 
-mul-from : tie.Need-mul-from Inv-loop μ-loop
-mul-from c = omega arith
-
-mul-to : tie.Need-mul-to Inv-loop μ-loop
-mul-to c = omega arith
-
-mul-at : tie.Need-mul-at Inv-loop μ-loop
-mul-at c = omega arith
-
 loop-holds : tie.Need-loop-holds Inv-loop μ-loop
 loop-holds c = made-none _ _ _
-
-add-pair-row : tie.Need-add-pair-row Inv-loop μ-loop
-add-pair-row c = omega arith
-
-mul-pair-row : tie.Need-mul-pair-row Inv-loop μ-loop
-mul-pair-row c = omega arith
-
-sub-pair-row : tie.Need-sub-pair-row Inv-loop μ-loop
-sub-pair-row c = omega arith
-
-part-pair-row-start : tie.Need-part-pair-row-start Inv-loop μ-loop
-part-pair-row-start c = omega arith
-
-part-pair-row-end : tie.Need-part-pair-row-end Inv-loop μ-loop
-part-pair-row-end c = omega arith
-
-add-pair-row-2 : tie.Need-add-pair-row-2 Inv-loop μ-loop
-add-pair-row-2 c = omega arith
-
-mul-pair-row-2 : tie.Need-mul-pair-row-2 Inv-loop μ-loop
-mul-pair-row-2 c = omega arith
-
-sub-pair-row-2 : tie.Need-sub-pair-row-2 Inv-loop μ-loop
-sub-pair-row-2 c = omega arith
-
-part-pair-row-start-2 : tie.Need-part-pair-row-start-2 Inv-loop μ-loop
-part-pair-row-start-2 c = omega arith
-
-part-pair-row-end-2 : tie.Need-part-pair-row-end-2 Inv-loop μ-loop
-part-pair-row-end-2 c = omega arith
 
 pair-row-requires : tie.Need-pair-row-requires Inv-loop μ-loop
 pair-row-requires c κs =
@@ -69,21 +30,6 @@ pair-row-requires c κs =
       part-masked (l .rows) (a .rows .now) (a .left .now) (a .x) (l .e) (room (a .x) (p .x-before)) (kept (a .x) (p .x-before)) (p .seen-x) (omega arith),
       part-masked (l .rows) (a .rows .now) (a .right .now) (a .y) (l .e) (room (a .y) (p .y-before)) (kept (a .y) (p .y-before)) (p .seen-y) (omega arith),
     )
-
-add-rows : tie.Need-add-rows Inv-loop μ-loop
-add-rows c = omega arith
-
-mul-rows : tie.Need-mul-rows Inv-loop μ-loop
-mul-rows c = omega arith
-
-slice-write-rows : tie.Need-slice-write-rows Inv-loop μ-loop
-slice-write-rows c = omega arith
-
-add-e : tie.Need-add-e Inv-loop μ-loop
-add-e c = omega arith
-
-loop-less : tie.Need-loop-less Inv-loop μ-loop
-loop-less c = omega arith
 
 loop-again : tie.Need-loop-again Inv-loop μ-loop
 loop-again c =
@@ -108,26 +54,26 @@ fill-masked-spec =
     (tie.spec
     Inv-loop
     μ-loop
-    mul-from
-    mul-to
-    mul-at
+    (λ c. omega arith)
+    (λ c. omega arith)
+    (λ c. omega arith)
     loop-holds
-    add-pair-row
-    mul-pair-row
-    sub-pair-row
-    part-pair-row-start
-    part-pair-row-end
-    add-pair-row-2
-    mul-pair-row-2
-    sub-pair-row-2
-    part-pair-row-start-2
-    part-pair-row-end-2
+    (λ c. omega arith)
+    (λ c. omega arith)
+    (λ c. omega arith)
+    (λ c. omega arith)
+    (λ c. omega arith)
+    (λ c. omega arith)
+    (λ c. omega arith)
+    (λ c. omega arith)
+    (λ c. omega arith)
+    (λ c. omega arith)
     pair-row-requires
-    add-rows
-    mul-rows
-    slice-write-rows
-    add-e
-    loop-less
+    (λ c. omega arith)
+    (λ c. omega arith)
+    (λ c. omega arith)
+    (λ c. omega arith)
+    (λ c. omega arith)
     loop-again
     same-length
     returns)

@@ -45,32 +45,11 @@ loop-holds c =
     let w = sound-start argumentBytes (s .args .body .now) (s .pre .sound) in
     filling-none _ _ _ _ _ (w .most) refl (s .pre .room) (s .pre .short) (w .rest)
 
-entry-at-requires : tie.Need-entry-at-requires Inv-loop μ-loop
-entry-at-requires c κs = search needs
-
-add-i : tie.Need-add-i Inv-loop μ-loop
-add-i c = omega arith
-
-enum-known-entry : tie.Need-enum-known-entry Inv-loop μ-loop
-enum-known-entry c = search needs
-
 fill-letter-requires : tie.Need-fill-letter-requires Inv-loop μ-loop
 fill-letter-requires c κs =
     let l = c .before .before .before .before .before .before .loop in
     let t : l .i < _ = c .before .before .before .before .before .loop-test .taken in
     omega (arith, l .inv .room, l .inv .same)
-
-mul-tops : tie.Need-mul-tops Inv-loop μ-loop
-mul-tops c = omega arith
-
-array-write-tops : tie.Need-array-write-tops Inv-loop μ-loop
-array-write-tops c = omega arith
-
-add-d : tie.Need-add-d Inv-loop μ-loop
-add-d c = omega arith
-
-loop-less : tie.Need-loop-less Inv-loop μ-loop
-loop-less c = omega arith
 
 loop-again : tie.Need-loop-again Inv-loop μ-loop
 loop-again c =
@@ -79,26 +58,11 @@ loop-again c =
     let l = k .before .before .before .before .before .loop in
     filling-letter _ _ _ _ _ _ _ _ (l .inv) (omega arith) (f .fill-letter .last .0) (f .fill-letter .kept .0) _ (letter-entry k) (f .fill-letter .ensures)
 
-enum-known-entry-2 : tie.Need-enum-known-entry-2 Inv-loop μ-loop
-enum-known-entry-2 c = search needs
-
 sub-fill-pair : tie.Need-sub-fill-pair Inv-loop μ-loop
 sub-fill-pair c = omega (arith, pair-two (c .before))
 
-mul-fill-pair : tie.Need-mul-fill-pair Inv-loop μ-loop
-mul-fill-pair c = omega arith
-
-array-read-fill-pair : tie.Need-array-read-fill-pair Inv-loop μ-loop
-array-read-fill-pair c = omega arith
-
 sub-fill-pair-2 : tie.Need-sub-fill-pair-2 Inv-loop μ-loop
 sub-fill-pair-2 c = omega (arith, pair-two (c .before))
-
-mul-fill-pair-2 : tie.Need-mul-fill-pair-2 Inv-loop μ-loop
-mul-fill-pair-2 c = omega arith
-
-array-read-fill-pair-2 : tie.Need-array-read-fill-pair-2 Inv-loop μ-loop
-array-read-fill-pair-2 c = omega arith
 
 fill-pair-requires : tie.Need-fill-pair-requires Inv-loop μ-loop
 fill-pair-requires c κs =
@@ -110,17 +74,8 @@ fill-pair-requires c κs =
 sub-tops : tie.Need-sub-tops Inv-loop μ-loop
 sub-tops c = omega (arith, pair-two (c .before .before .before .before))
 
-mul-tops-2 : tie.Need-mul-tops-2 Inv-loop μ-loop
-mul-tops-2 c = omega arith
-
-array-write-tops-2 : tie.Need-array-write-tops-2 Inv-loop μ-loop
-array-write-tops-2 c = omega arith
-
 sub-d : tie.Need-sub-d Inv-loop μ-loop
 sub-d c = omega (arith, pair-two (c .before .before .before .before))
-
-loop-less-2 : tie.Need-loop-less-2 Inv-loop μ-loop
-loop-less-2 c = omega arith
 
 loop-again-2 : tie.Need-loop-again-2 Inv-loop μ-loop
 loop-again-2 c =
@@ -129,17 +84,8 @@ loop-again-2 c =
     let l = k .before .before .before .before .before .loop in
     filling-pair _ _ _ _ _ _ _ _ (l .inv) (omega arith) (f .fill-pair .last .0) (f .fill-pair .kept .0) _ _ _ (pair-entry k) refl refl (f .fill-pair .ensures)
 
-enum-known-entry-3 : tie.Need-enum-known-entry-3 Inv-loop μ-loop
-enum-known-entry-3 c = search needs
-
 sub-fill-within : tie.Need-sub-fill-within Inv-loop μ-loop
 sub-fill-within c = omega (arith, within-one (c .before))
-
-mul-fill-within : tie.Need-mul-fill-within Inv-loop μ-loop
-mul-fill-within c = omega arith
-
-array-read-fill-within : tie.Need-array-read-fill-within Inv-loop μ-loop
-array-read-fill-within c = omega arith
 
 fill-within-requires : tie.Need-fill-within-requires Inv-loop μ-loop
 fill-within-requires c κs =
@@ -150,15 +96,6 @@ fill-within-requires c κs =
 sub-tops-2 : tie.Need-sub-tops-2 Inv-loop μ-loop
 sub-tops-2 c = omega (arith, within-one (c .before .before .before .before))
 
-mul-tops-3 : tie.Need-mul-tops-3 Inv-loop μ-loop
-mul-tops-3 c = omega arith
-
-array-write-tops-3 : tie.Need-array-write-tops-3 Inv-loop μ-loop
-array-write-tops-3 c = omega arith
-
-loop-less-3 : tie.Need-loop-less-3 Inv-loop μ-loop
-loop-less-3 c = omega arith
-
 loop-again-3 : tie.Need-loop-again-3 Inv-loop μ-loop
 loop-again-3 c =
     let f = c .before .before in
@@ -168,9 +105,6 @@ loop-again-3 c =
 
 enum-told : tie.Need-enum-told Inv-loop μ-loop
 enum-told c = search needs
-
-loop-less-4 : tie.Need-loop-less-4 Inv-loop μ-loop
-loop-less-4 c = omega arith
 
 loop-again-4 : tie.Need-loop-again-4 Inv-loop μ-loop
 loop-again-4 c =
@@ -190,41 +124,41 @@ fill-rows-spec =
     Inv-loop
     μ-loop
     loop-holds
-    entry-at-requires
-    add-i
-    enum-known-entry
+    (λ c κs. search needs)
+    (λ c. omega arith)
+    (λ c. search needs)
     fill-letter-requires
-    mul-tops
-    array-write-tops
-    add-d
-    loop-less
+    (λ c. omega arith)
+    (λ c. omega arith)
+    (λ c. omega arith)
+    (λ c. omega arith)
     loop-again
-    enum-known-entry-2
+    (λ c. search needs)
     sub-fill-pair
-    mul-fill-pair
-    array-read-fill-pair
+    (λ c. omega arith)
+    (λ c. omega arith)
     sub-fill-pair-2
-    mul-fill-pair-2
-    array-read-fill-pair-2
+    (λ c. omega arith)
+    (λ c. omega arith)
     fill-pair-requires
     sub-tops
-    mul-tops-2
-    array-write-tops-2
+    (λ c. omega arith)
+    (λ c. omega arith)
     sub-d
-    loop-less-2
+    (λ c. omega arith)
     loop-again-2
-    enum-known-entry-3
+    (λ c. search needs)
     sub-fill-within
-    mul-fill-within
-    array-read-fill-within
+    (λ c. omega arith)
+    (λ c. omega arith)
     fill-within-requires
     sub-tops-2
-    mul-tops-3
-    array-write-tops-3
-    loop-less-3
+    (λ c. omega arith)
+    (λ c. omega arith)
+    (λ c. omega arith)
     loop-again-3
     enum-told
-    loop-less-4
+    (λ c. omega arith)
     loop-again-4
     same-length
     returns)

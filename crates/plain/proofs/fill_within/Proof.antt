@@ -16,41 +16,8 @@ Inv-loop rows₀ limit x k from at e₀ rows e = Made (Short limit (Shown (rowsO
 abbrev μ-loop : tie.MeasureT-loop
 μ-loop rows₀ limit x k from at e₀ rows e = 64 - e
 
-mul-from : tie.Need-mul-from Inv-loop μ-loop
-mul-from c = omega arith
-
-mul-at : tie.Need-mul-at Inv-loop μ-loop
-mul-at c = omega arith
-
 loop-holds : tie.Need-loop-holds Inv-loop μ-loop
 loop-holds c = made-none _ _ _
-
-add-within-row : tie.Need-add-within-row Inv-loop μ-loop
-add-within-row c = omega arith
-
-mul-within-row : tie.Need-mul-within-row Inv-loop μ-loop
-mul-within-row c = omega arith
-
-slice-read-within-row : tie.Need-slice-read-within-row Inv-loop μ-loop
-slice-read-within-row c = omega arith
-
-within-row-requires : tie.Need-within-row-requires Inv-loop μ-loop
-within-row-requires c κs = omega arith
-
-add-rows : tie.Need-add-rows Inv-loop μ-loop
-add-rows c = omega arith
-
-mul-rows : tie.Need-mul-rows Inv-loop μ-loop
-mul-rows c = omega arith
-
-slice-write-rows : tie.Need-slice-write-rows Inv-loop μ-loop
-slice-write-rows c = omega arith
-
-add-e : tie.Need-add-e Inv-loop μ-loop
-add-e c = omega arith
-
-loop-less : tie.Need-loop-less Inv-loop μ-loop
-loop-less c = omega arith
 
 loop-again : tie.Need-loop-again Inv-loop μ-loop
 loop-again c =
@@ -74,18 +41,18 @@ fill-within-spec =
     (tie.spec
     Inv-loop
     μ-loop
-    mul-from
-    mul-at
+    (λ c. omega arith)
+    (λ c. omega arith)
     loop-holds
-    add-within-row
-    mul-within-row
-    slice-read-within-row
-    within-row-requires
-    add-rows
-    mul-rows
-    slice-write-rows
-    add-e
-    loop-less
+    (λ c. omega arith)
+    (λ c. omega arith)
+    (λ c. omega arith)
+    (λ c κs. omega arith)
+    (λ c. omega arith)
+    (λ c. omega arith)
+    (λ c. omega arith)
+    (λ c. omega arith)
+    (λ c. omega arith)
     loop-again
     same-length
     returns)

@@ -4,12 +4,6 @@ use borrow.Author.Needs.{needs}
 use Rattle.plain.proofs.from.Statement.{statement}
 use Rattle.plain.proofs.from.Tie as tie
 
-shr-result : tie.Need-shr-result
-shr-result c = search needs
-
-shl-result : tie.Need-shl-result
-shl-result c = search needs
-
 returns : tie.Need-returns
 returns c = from-k (c .before .args .row) (c .before .args .k) (c .before .fits .row .fits)
 
@@ -17,4 +11,4 @@ returns-2 : tie.Need-returns-2
 returns-2 c = from-high (c .before .args .row) (c .before .args .k) (c .before .fits .row .fits) (c .if1 .left)
 
 pub from-spec : {M : Type 1} → statement M
-from-spec = tie.close (tie.spec shr-result shl-result returns returns-2)
+from-spec = tie.close (tie.spec (λ c. search needs) (λ c. search needs) returns returns-2)

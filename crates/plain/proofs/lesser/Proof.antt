@@ -7,35 +7,8 @@ use borrow.Author.Needs.{needs}
 use Rattle.plain.proofs.lesser.Statement.{statement}
 use Rattle.plain.proofs.lesser.Tie as tie
 
-latest-start-requires : tie.Need-latest-start-requires
-latest-start-requires c κs = search needs
-
 enum-told : tie.Need-enum-told
 enum-told c = search needs
-
-enum-known-l : tie.Need-enum-known-l
-enum-known-l c = search needs
-
-latest-start-requires-2 : tie.Need-latest-start-requires-2
-latest-start-requires-2 c κs = search needs
-
-enum-told-2 : tie.Need-enum-told-2
-enum-told-2 c = search needs
-
-enum-known-m : tie.Need-enum-known-m
-enum-known-m c = search needs
-
-cast-upto : tie.Need-cast-upto
-cast-upto c = search needs
-
-upto-requires : tie.Need-upto-requires
-upto-requires c κs = search needs
-
-cast-upto-2 : tie.Need-cast-upto-2
-cast-upto-2 c = search needs
-
-upto-requires-2 : tie.Need-upto-requires-2
-upto-requires-2 c κs = search needs
 
 returns : tie.Need-returns
 returns c = lesser-none _ _ (subst (IsLatest _) (c .enum-told .given .1) (c .before .before .latest-start .ensures))
@@ -67,16 +40,16 @@ pub lesser-spec : {M : Type 1} → statement M
 lesser-spec =
     tie.close
     (tie.spec
-    latest-start-requires
+    (λ c κs. search needs)
     enum-told
-    enum-known-l
-    latest-start-requires-2
-    enum-told-2
-    enum-known-m
-    cast-upto
-    upto-requires
-    cast-upto-2
-    upto-requires-2
+    (λ c. search needs)
+    (λ c κs. search needs)
+    (λ c. search needs)
+    (λ c. search needs)
+    (λ c. search needs)
+    (λ c κs. search needs)
+    (λ c. search needs)
+    (λ c κs. search needs)
     returns
     returns-2
     returns-3

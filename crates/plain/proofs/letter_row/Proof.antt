@@ -5,12 +5,6 @@ use borrow.Author.Needs.{needs}
 use Rattle.plain.proofs.letter_row.Statement.{statement}
 use Rattle.plain.proofs.letter_row.Tie as tie
 
-occurs-requires : tie.Need-occurs-requires
-occurs-requires c κs = search needs
-
-shl-result : tie.Need-shl-result
-shl-result c = search needs
-
 returns : tie.Need-returns
 returns c =
     let a = c .before .before .args in
@@ -20,4 +14,4 @@ returns-2 : tie.Need-returns-2
 returns-2 c = empty _ (λ s p. never (c .before .occurs .ensures .1 (p .1)) (c .if1 .left))
 
 pub letter-row-spec : {M : Type 1} → statement M
-letter-row-spec = tie.close (tie.spec occurs-requires shl-result returns returns-2)
+letter-row-spec = tie.close (tie.spec (λ c κs. search needs) (λ c. search needs) returns returns-2)

@@ -9,96 +9,6 @@ use Rattle.plain.proofs.pair_row.Tie as tie
 enum-told : tie.Need-enum-told
 enum-told c = search needs
 
-mul-either : tie.Need-mul-either
-mul-either c = search needs
-
-shared-slice-read-either : tie.Need-shared-slice-read-either
-shared-slice-read-either c = search needs
-
-mul-either-2 : tie.Need-mul-either-2
-mul-either-2 c = search needs
-
-shared-slice-read-either-2 : tie.Need-shared-slice-read-either-2
-shared-slice-read-either-2 c = search needs
-
-either-requires : tie.Need-either-requires
-either-requires c κs = search needs
-
-enum-told-2 : tie.Need-enum-told-2
-enum-told-2 c = search needs
-
-mul-lesser : tie.Need-mul-lesser
-mul-lesser c = search needs
-
-shared-slice-read-lesser : tie.Need-shared-slice-read-lesser
-shared-slice-read-lesser c = search needs
-
-add-lesser : tie.Need-add-lesser
-add-lesser c = search needs
-
-mul-lesser-2 : tie.Need-mul-lesser-2
-mul-lesser-2 c = search needs
-
-shared-slice-read-lesser-2 : tie.Need-shared-slice-read-lesser-2
-shared-slice-read-lesser-2 c = search needs
-
-lesser-requires : tie.Need-lesser-requires
-lesser-requires c κs = search needs
-
-mul-lesser-3 : tie.Need-mul-lesser-3
-mul-lesser-3 c = search needs
-
-shared-slice-read-lesser-3 : tie.Need-shared-slice-read-lesser-3
-shared-slice-read-lesser-3 c = search needs
-
-add-lesser-2 : tie.Need-add-lesser-2
-add-lesser-2 c = search needs
-
-mul-lesser-4 : tie.Need-mul-lesser-4
-mul-lesser-4 c = search needs
-
-shared-slice-read-lesser-4 : tie.Need-shared-slice-read-lesser-4
-shared-slice-read-lesser-4 c = search needs
-
-lesser-requires-2 : tie.Need-lesser-requires-2
-lesser-requires-2 c κs = search needs
-
-either-requires-2 : tie.Need-either-requires-2
-either-requires-2 c κs = search needs
-
-enum-told-3 : tie.Need-enum-told-3
-enum-told-3 c = search needs
-
-mul-above : tie.Need-mul-above
-mul-above c = search needs
-
-shared-slice-read-above : tie.Need-shared-slice-read-above
-shared-slice-read-above c = search needs
-
-add-above : tie.Need-add-above
-add-above c = search needs
-
-mul-above-2 : tie.Need-mul-above-2
-mul-above-2 c = search needs
-
-shared-slice-read-above-2 : tie.Need-shared-slice-read-above-2
-shared-slice-read-above-2 c = search needs
-
-above-requires : tie.Need-above-requires
-above-requires c κs = search needs
-
-enum-told-4 : tie.Need-enum-told-4
-enum-told-4 c = search needs
-
-mul-chain-row : tie.Need-mul-chain-row
-mul-chain-row c = search needs
-
-shared-slice-read-chain-row : tie.Need-shared-slice-read-chain-row
-shared-slice-read-chain-row c = search needs
-
-chain-row-requires : tie.Need-chain-row-requires
-chain-row-requires c κs = search needs
-
 returns : tie.Need-returns
 returns c = rw (c .before .before .before .enum-told .given .1) (c .either .ensures)
 
@@ -130,36 +40,36 @@ pair-row-spec =
     tie.close
     (tie.spec
     enum-told
-    mul-either
-    shared-slice-read-either
-    mul-either-2
-    shared-slice-read-either-2
-    either-requires
-    enum-told-2
-    mul-lesser
-    shared-slice-read-lesser
-    add-lesser
-    mul-lesser-2
-    shared-slice-read-lesser-2
-    lesser-requires
-    mul-lesser-3
-    shared-slice-read-lesser-3
-    add-lesser-2
-    mul-lesser-4
-    shared-slice-read-lesser-4
-    lesser-requires-2
-    either-requires-2
-    enum-told-3
-    mul-above
-    shared-slice-read-above
-    add-above
-    mul-above-2
-    shared-slice-read-above-2
-    above-requires
-    enum-told-4
-    mul-chain-row
-    shared-slice-read-chain-row
-    chain-row-requires
+    (λ c. search needs)
+    (λ c. search needs)
+    (λ c. search needs)
+    (λ c. search needs)
+    (λ c κs. search needs)
+    (λ c. search needs)
+    (λ c. search needs)
+    (λ c. search needs)
+    (λ c. search needs)
+    (λ c. search needs)
+    (λ c. search needs)
+    (λ c κs. search needs)
+    (λ c. search needs)
+    (λ c. search needs)
+    (λ c. search needs)
+    (λ c. search needs)
+    (λ c. search needs)
+    (λ c κs. search needs)
+    (λ c κs. search needs)
+    (λ c. search needs)
+    (λ c. search needs)
+    (λ c. search needs)
+    (λ c. search needs)
+    (λ c. search needs)
+    (λ c. search needs)
+    (λ c κs. search needs)
+    (λ c. search needs)
+    (λ c. search needs)
+    (λ c. search needs)
+    (λ c κs. search needs)
     returns
     returns-2
     returns-3

@@ -5,12 +5,6 @@ use borrow.Author.Needs.{needs}
 use Rattle.plain.proofs.upto.Statement.{statement}
 use Rattle.plain.proofs.upto.Tie as tie
 
-sub-result : tie.Need-sub-result
-sub-result c = search needs
-
-shr-result : tie.Need-shr-result
-shr-result c = search needs
-
 returns : tie.Need-returns
 returns c = low (c .before .args .row) (c .before .args .k) (omega arith)
 
@@ -18,4 +12,4 @@ returns-2 : tie.Need-returns-2
 returns-2 c = all (c .before .args .row) (c .before .args .k) (c .before .fits .row .fits) (c .if1 .left)
 
 pub upto-spec : {M : Type 1} → statement M
-upto-spec = tie.close (tie.spec sub-result shr-result returns returns-2)
+upto-spec = tie.close (tie.spec (λ c. search needs) (λ c. search needs) returns returns-2)

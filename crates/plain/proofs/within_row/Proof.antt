@@ -4,12 +4,6 @@ use native.Mathlib.Omega.{arith}
 use Rattle.plain.proofs.within_row.Statement.{statement}
 use Rattle.plain.proofs.within_row.Tie as tie
 
-earliest-requires : tie.Need-earliest-requires
-earliest-requires c κs = search needs
-
-from-requires : tie.Need-from-requires
-from-requires c κs = search needs
-
 returns : tie.Need-returns
 returns c = λ s. (
   (λ h. (c .from .ensures s .0 h .0, omega (arith, c .from .ensures s .0 h .1))),
@@ -17,4 +11,4 @@ returns c = λ s. (
 )
 
 pub within-row-spec : {M : Type 1} → statement M
-within-row-spec = tie.close (tie.spec earliest-requires from-requires returns)
+within-row-spec = tie.close (tie.spec (λ c κs. search needs) (λ c κs. search needs) returns)
