@@ -1,8 +1,6 @@
 -- What the calls for C promise: what the call behind each promises, a status word, and that a number lent for the answer is written only if the
 -- call is accepted (docs/RULES.md, "Refusals"). Assumes nothing: these are definitions.
 use mathlib.Core.Path.{_≡_}
-use mathlib.Core.List.{List}
-use lib.ListN.{getD, set}
 use Prim.Native.Nat.{ℕ, suc, _+_, _^_}
 use Rattle.refusal.specs.declared.Refusal.{Refusal}
 use Rattle.refusal.specs.Table.{packedOf}
@@ -35,8 +33,6 @@ use Rattle.watcher.specs.declared.Feeding.{Feeding}
 use Rattle.watcher.specs.declared.Feeding.the-variants as Feeds
 use Rattle.set.specs.declared.SetTicking.{SetTicking}
 use Rattle.set.specs.declared.SetTicking.the-variants as Sets
-use Rattle.tally.specs.declared.Tally.{Tally}
-use Rattle.tally.specs.Tallied.{addedTo, statusOf as tallyStatus, after}
 
 -- what an answer is to C: accepted, with the number that the call gives (0 where it gives none), or refused
 pub data Outcome : Type 0 where
@@ -151,11 +147,3 @@ pub record LookedUp (answer : Finding) (from from′ long long′ status : ℕ) 
   pub place : from′ ≡ lookupFrom answer from
   pub bytes : long′ ≡ lookupLong answer long
   pub word : status ≡ lookupStatus answer
-
--- a tally of two words: windows and ticks
-abbrev pub tallyOf : List ℕ → Tally
-tallyOf l = record { windows = getD l 0 0; ticks = getD l 1 0 }
-
-pub record TallyAdded (l l′ : List ℕ) (start end status : ℕ) : Type 0 where
-  pub words : l′ ≡ set (set l 0 (after (tallyOf l) (addedTo (tallyOf l) start end) .windows)) 1 (after (tallyOf l) (addedTo (tallyOf l) start end) .ticks)
-  pub word : status ≡ tallyStatus (addedTo (tallyOf l) start end)

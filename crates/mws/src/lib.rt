@@ -28,8 +28,9 @@ ghost use Rattle.watcher.specs.Answer.{RoomAnswers, OpenAnswers, TickAnswers};
 ghost use Rattle.watcher.specs.Feed.{FeedAnswers};
 ghost use Rattle.set.specs.Set.{SetAnswers};
 ghost use Rattle.set.specs.File.{SetRoomAnswers, SetOpenAnswers};
+ghost use Rattle.tally.specs.Tallied.{addedTo, statusOf as tallyStatus, after};
 ghost use Rattle.mws.specs.Status.{statusOf, Told, Done, checked, filed, reading, printing, writing, evaluating, needing, opening, ticking, feeding, settling};
-ghost use Rattle.mws.specs.Status.{RowLatest, fileBits, LookedUp, TallyAdded};
+ghost use Rattle.mws.specs.Status.{RowLatest, fileBits, LookedUp};
 
 // Checks a body.
 #[no_mangle]
@@ -263,20 +264,10 @@ pub extern "C" fn mws_set_tick(
     }
 }
 
-// Adds a window to a tally, a record of two words.
+// Adds a window to the caller's tally. A refused window leaves the tally as it was.
 #[no_mangle]
-pub extern "C" fn mws_tally_add(tally: &mut [u64; 2], start: u64, end: u64) -> u64
-    ensures { λ r. ⌜ TallyAdded (now (tally .entry)) (now (tally .exit)) start end r ⌝ }
+pub extern "C" fn mws_tally_add(tally: &mut Tally, start: u64, end: u64) -> u64
+    ensures { λ r. ⌜ (r ≡ tallyStatus (addedTo (now (tally .entry)) start end)) × (now (tally .exit) ≡ after (now (tally .entry)) (addedTo (now (tally .entry)) start end)) ⌝ }
 {
-    let kept = tally::settled(
-        Tally {
-            windows: tally[0],
-            ticks: tally[1],
-        },
-        start,
-        end,
-    );
-    tally[0] = kept.tally.windows;
-    tally[1] = kept.tally.ticks;
-    kept.status
+    tally::add(tally, start, end)
 }

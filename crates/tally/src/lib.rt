@@ -1,22 +1,23 @@
-// The tally of windows: how many there are, and how many ticks they take together.
+// The tally: how many windows were added, and how many ticks they take together.
 use refusal::Refusal;
 use rules::LAST_TICK;
 ghost use mathlib.Core.Path.{_≡_};
 ghost use Rattle.tally.specs.Tallied.{addedTo, statusOf, after};
 
-// Windows counted, and the sum of end - start + 1 over them.
+// How many windows were added, and the sum of end - start + 1 over them. C lends the same record.
+#[repr(C)]
 pub struct Tally {
     pub windows: u64,
     pub ticks: u64,
 }
 
-// What adding a window answers: the tally with it counted, or why it is refused.
+// The result of adding a window: the tally with the window counted, or why the window is refused.
 pub enum Adding {
     Added(Tally),
     Refused(Refusal),
 }
 
-// Adds a window to the caller's tally; a refused window leaves it as it was. Answers 0, or the refusal's word for C.
+// Adds a window to the caller's tally. A refused window leaves the tally as it was. Returns 0, or the refusal as a status word.
 pub fn add(tally: &mut Tally, start: u64, end: u64) -> u64
     ensures { λ r. ⌜ (r ≡ statusOf (addedTo (now (tally .entry)) start end)) × (now (tally .exit) ≡ after (now (tally .entry)) (addedTo (now (tally .entry)) start end)) ⌝ }
 {
@@ -25,13 +26,13 @@ pub fn add(tally: &mut Tally, start: u64, end: u64) -> u64
     s.status
 }
 
-// The refusal's word or 0, and the tally to keep.
+// The status word, which is 0 if the window was added, and the tally to keep.
 pub struct Kept {
     pub status: u64,
     pub tally: Tally,
 }
 
-// Adds a window, and says which tally to keep either way.
+// Adds a window. If the window is refused, the tally to keep is the one passed in.
 pub fn settled(tally: Tally, start: u64, end: u64) -> Kept
     ensures { λ r. ⌜ (r .status ≡ statusOf (addedTo tally start end)) × (r .tally ≡ after tally (addedTo tally start end)) ⌝ }
 {
@@ -47,7 +48,7 @@ pub fn settled(tally: Tally, start: u64, end: u64) -> Kept
     }
 }
 
-// The tally with a window from start to end counted.
+// The tally with the window from start to end counted, or why the window is refused.
 pub fn added(tally: Tally, start: u64, end: u64) -> Adding
     ensures { λ r. ⌜ r ≡ addedTo tally start end ⌝ }
 {
