@@ -3,7 +3,7 @@ use Prim.Native.Nat.{ℕ, _≤_}
 use mathlib.Core.Path.{_≡_, refl, sym, ap, _∙_}
 use mathlib.Core.List.{List, [], _∷_, _++_, append-assoc, append-nil}
 use native.Mathlib.Omega.{arith}
-use lib.ListN.{length, length-append, getD, drop, replicate, length-replicate, drop-of-length-le}
+use lib.ListN.{length, length-append, drop, replicate, length-replicate, drop-of-length-le}
 use Rattle.rules.specs.Limits.{argumentBytes}
 use Rattle.rules.specs.Lists.{All}
 use Rattle.rules.specs.Pattern.{Pattern}
@@ -13,7 +13,7 @@ use Rattle.detector.specs.Run.{run}
 use Rattle.detector.proofs.Form.{fresh-form}
 use Rattle.body.specs.Postfix.{encode, Bodied}
 use Rattle.body.specs.Claim.{BodyOf}
-use Rattle.watcher.specs.State.{stateOf, roomOf, InForm}
+use Rattle.watcher.specs.State.{nextOf, stateOf, roomOf, InForm}
 use Rattle.watcher.specs.Answer.{IsOpened}
 use Rattle.watcher.specs.Claim.{Watched, opened}
 use Rattle.set.specs.Set.{Past, SetTicked}
@@ -114,6 +114,6 @@ pub alones-past : (es : List Pattern) {h : List Tick} {t : ℕ} {s : List ℕ} �
 alones-past [] {s = s} x n = (s, Sets.none)
 alones-past (e ∷ es) {h = h} {s = s} (more p r q b x f k z) n =
     let g = watched-reached (encode argumentBytes e) e (body e b) x in
-    let j : f .next ≡ nextTick 0 h = sym (next-word f) ∙ ap (λ (l : List ℕ). getD l 1 0) (g .same) in
+    let j : f .next ≡ nextTick 0 h = sym (next-word f) ∙ ap nextOf (g .same) in
     let m = alones-past es z n in
     (m .0, past-cons (length es) (front f k s r q) (omega arith) (m .1))

@@ -7,22 +7,22 @@ use native.Mathlib.Decide.{decLt}
 use native.Mathlib.Numerals.{add-one}
 use native.Mathlib.Omega.{arith}
 use lib.ListN.{length, getD, drop, set, length-set, length-drop}
-use lib.Seq.{drop-drop, getD-set-same, getD-set-other, getD-drop}
+use lib.Seq.{drop-drop, getD-set-same, getD-set-other}
 use Rattle.rules.proofs.Impossible.{impossible}
 use Rattle.rules.specs.Limits.{mostPatterns, ticks}
 use Rattle.rules.proofs.Decisions.{pick-yes, pick-no}
 use Rattle.refusal.specs.declared.Refusal.the-variants.{State, Late}
-use Rattle.watcher.specs.State.{InForm}
+use Rattle.watcher.specs.State.{nextOf, InForm}
 use Rattle.watcher.specs.Walk.{formed, extent}
 use Rattle.set.specs.Set.{Past, none, more, Fault, broken, below}
 use Rattle.set.specs.Calls.{lateAfter, PartsReady, EndsReady}
 use Rattle.watcher.proofs.States.{next-word}
 use Rattle.watcher.proofs.Judges.{formed-exactly, extent-formed, extent-broken}
-use Rattle.set.proofs.Parts.{beyond-is, extent-le, two-le}
+use Rattle.set.proofs.Parts.{beyond-is, extent-le}
 
 -- the lowest late state among i: none, or one that was found
 pub data Lates (n : ℕ) (s : List ℕ) (t : ℕ) (ends : List ℕ) (i at late : ℕ) : Type 0 where
-  allowed : late ≡ n → Past t i s (drop at s) → ((k : ℕ) → k < i → getD (drop (getD ends k 0) s) 1 0 ≤ t) → Lates n s t ends i at late
+  allowed : late ≡ n → Past t i s (drop at s) → ((k : ℕ) → k < i → nextOf (drop (getD ends k 0) s) ≤ t) → Lates n s t ends i at late
   found : late < n → (l : List ℕ) → Past t late s l → (f : InForm l) → t < f .next → Lates n s t ends i at late
 
 -- before state i, which begins at a place
@@ -72,7 +72,7 @@ module _ {n : ℕ} {s : List ℕ} {t : ℕ} {ends : List ℕ} {i at late : ℕ} 
     each = λ j l. record { form = x .form j (omega arith); end = x .end j (omega arith); late = go (x .lates) j l };
   }
     where
-      go : Lates n s t ends i at late → (j : ℕ) → j < n → getD (drop (getD ends j 0) s) 1 0 ≤ t
+      go : Lates n s t ends i at late → (j : ℕ) → j < n → nextOf (drop (getD ends j 0) s) ≤ t
       go (allowed e p f) j l = f j (omega arith)
       go (found l m p f q) j d = absurd (omega arith)
 
@@ -95,10 +95,6 @@ module _ {n : ℕ} {s : List ℕ} {t : ℕ} {ends : List ℕ} {i at late : ℕ} 
 
       pub judging-within : at + extent (drop at s) ≤ length s
       judging-within = omega (arith, extent-le (drop at s) q, length-drop at s, x .within)
-
-      -- the state's next tick allowed is there to read
-      pub judging-two : at + 1 < length s
-      judging-two = omega (arith, two-le (drop at s) q, judging-within)
 
       -- its place is put where state i + 1 begins
       module _ (v : ℕ) (e : v ≡ at + extent (drop at s)) where
@@ -126,24 +122,24 @@ module _ {n : ℕ} {s : List ℕ} {t : ℕ} {ends : List ℕ} {i at late : ℕ} 
                 let z : k ≡ i = omega arith in
                 rw (z, before i (omega arith), here, ← x .place) p
 
-        lates-more : (late′ : ℕ) → late′ ≡ lateAfter n late i (getD s (at + 1) 0) t → Lates n s t ends′ (i + 1) v late′
+        lates-more : (late′ : ℕ) → late′ ≡ lateAfter n late i (nextOf (drop at s)) t → Lates n s t ends′ (i + 1) v late′
         unfolding lateAfter
-        lates-more late′ d = go (x .lates) (decLt t (getD s (at + 1) 0))
+        lates-more late′ d = go (x .lates) (decLt t (nextOf (drop at s)))
           where
-            next : getD s (at + 1) 0 ≡ f .next
-            next = sym (getD-drop at s 1 0) ∙ next-word f
+            next : nextOf (drop at s) ≡ f .next
+            next = next-word f
 
-            go : Lates n s t ends i at late → Dec (t < getD s (at + 1) 0) → Lates n s t ends′ (i + 1) v late′
+            go : Lates n s t ends i at late → Dec (t < nextOf (drop at s)) → Lates n s t ends′ (i + 1) v late′
             go (found l m p g u) y = rw (d ∙ pick-yes (decLt late n) _ _ l) (found l m p g u)
             go (allowed a p o) (yes u) =
-                let z : late′ ≡ i = d ∙ pick-no (decLt late n) _ _ (λ b. omega arith) ∙ pick-yes (decLt t (getD s (at + 1) 0)) _ _ u in
+                let z : late′ ≡ i = d ∙ pick-no (decLt late n) _ _ (λ b. omega arith) ∙ pick-yes (decLt t (nextOf (drop at s))) _ _ u in
                 rw z (found h (drop at s) p f (omega (arith, next)))
             go (allowed a p o) (no u) =
-                let z : late′ ≡ n = d ∙ pick-no (decLt late n) _ _ (λ b. omega arith) ∙ pick-no (decLt t (getD s (at + 1) 0)) _ _ u in
+                let z : late′ ≡ n = d ∙ pick-no (decLt late n) _ _ (λ b. omega arith) ∙ pick-no (decLt t (nextOf (drop at s))) _ _ u in
                 allowed z (past-more t p (omega (arith, next)))
-                (each (λ (k m : ℕ). getD (drop k s) 1 0 ≤ t) o (omega (arith, next-word f, next)))
+                (each (λ (k m : ℕ). nextOf (drop k s) ≤ t) o (omega (arith, next)))
 
-        pub judging-more : (late′ : ℕ) → late′ ≡ lateAfter n late i (getD s (at + 1) 0) t → Judging n s t (set ends (i + 1) v) (i + 1) v late′
+        pub judging-more : (late′ : ℕ) → late′ ≡ lateAfter n late i (nextOf (drop at s)) t → Judging n s t (set ends (i + 1) v) (i + 1) v late′
         unfolding ends′
         judging-more late′ d = record {
           inside = omega arith;

@@ -6,11 +6,11 @@ use mathlib.Core.Bool.{true}
 use mathlib.Core.List.{List, [], append-nil}
 use mathlib.Core.Option.{some}
 use native.Mathlib.Omega.{arith}
-use lib.ListN.{length, getD, take, drop, length-append}
-use lib.Seq.{take-at, drop-at, length-take-le}
-use Rattle.watcher.specs.State.{stateOf, InForm}
+use lib.ListN.{length, take, drop, length-append}
+use lib.Seq.{take-at, drop-at}
+use Rattle.watcher.specs.State.{nextOf, stateOf, InForm}
 use Rattle.watcher.specs.Walk.{formed, extent}
-use Rattle.watcher.proofs.States.{next-word, state-long}
+use Rattle.watcher.proofs.States.{next-word}
 use Rattle.watcher.proofs.Judges.{formed-exactly, in-form-extent, in-form-cells}
 
 -- what lies beyond a state is fixed by the words
@@ -43,12 +43,6 @@ module _ {s : List ℕ} (f : InForm s) where
     same = taken ∙ sym (append-nil own);
   }
 
-  pub extent-two : 2 ≤ extent s
-  extent-two = omega (arith, state-long alone, length-take-le (extent s) s extent-le)
-    where
-      extent-le : extent s ≤ length s
-      extent-le = omega (arith, in-form-extent s f)
-
 -- by the form judged
 module _ (s : List ℕ) (q : formed s ≡ true) where
   f : InForm s
@@ -57,13 +51,10 @@ module _ (s : List ℕ) (q : formed s ≡ true) where
   pub extent-le : extent s ≤ length s
   extent-le = omega (arith, in-form-extent s f)
 
-  pub two-le : 2 ≤ extent s
-  two-le = extent-two f
-
   pub alone-formed : formed (take (extent s) s) ≡ true
   alone-formed = formed-exactly (take (extent s) s) .1 (alone f)
 
-  pub alone-next : getD (take (extent s) s) 1 0 ≡ getD s 1 0
+  pub alone-next : nextOf (take (extent s) s) ≡ nextOf s
   alone-next = next-word (alone f) ∙ sym (next-word f)
 
   pub alone-beyond : (g : InForm (take (extent s) s)) → g .beyond ≡ []

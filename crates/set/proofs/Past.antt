@@ -5,12 +5,12 @@ use mathlib.Core.List.{List, [], _++_, append-nil}
 use mathlib.Core.Option.{some}
 use native.Mathlib.Decide.{decLt}
 use native.Mathlib.Omega.{arith}
-use lib.ListN.{length, take, getD, length-append}
+use lib.ListN.{length, take, length-append}
 use lib.Seq.{take-at}
 use Rattle.rules.specs.Limits.{ticks}
 use Rattle.refusal.specs.declared.Refusal.{Refusal}
 use Rattle.refusal.specs.declared.Refusal.the-variants.{State, Late}
-use Rattle.watcher.specs.State.{stateOf, InForm}
+use Rattle.watcher.specs.State.{nextOf, stateOf, InForm}
 use Rattle.watcher.specs.Walk.{judged}
 use Rattle.set.specs.Set.{Past, none, more, Fault, broken, below, SetTicked}
 use Rattle.set.specs.Set as Sets
@@ -23,7 +23,7 @@ beyond-by {r} {r′} e f g =
     let q : some (f .beyond) ≡ some (g .beyond) = sym (in-form-cells r f) ∙ ap judged e ∙ in-form-cells r′ g in cc
 
 next-by : {r r′ : List ℕ} → r ≡ r′ → (f : InForm r) (g : InForm r′) → f .next ≡ g .next
-next-by e f g = sym (next-word f) ∙ ap (λ (l : List ℕ). getD l 1 0) e ∙ next-word g
+next-by e f g = sym (next-word f) ∙ ap nextOf e ∙ next-word g
 
 pub past-same : (n : ℕ) {τ τ′ : ℕ} {s r r′ : List ℕ} → Past τ n s r → Past τ′ n s r′ → r ≡ r′
 past-same zero none none = refl

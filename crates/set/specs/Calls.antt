@@ -16,7 +16,7 @@ use Rattle.file.specs.Check.{checkOf}
 use Rattle.file.specs.Place.{bodyPlace}
 use Rattle.set.specs.declared.SetTicking.{SetTicking}
 use Rattle.set.specs.declared.SetTicking.the-variants.{Ticked, Refused}
-use Rattle.watcher.specs.State.{stateOf, roomOf}
+use Rattle.watcher.specs.State.{nextOf, stateOf, roomOf}
 use Rattle.watcher.specs.Walk.{formed, extent}
 use Rattle.set.specs.Set.{Fault, SetTicked}
 use Rattle.set.specs.File.{Holds, roomsOf}
@@ -69,7 +69,7 @@ lateAfter n late i next t = pick (decLt late n) late (pick (decLt t next) i n)
 pub record PartReady (s : List ℕ) (t from to : ℕ) : Type 0 where
   pub form : formed (drop from s) ≡ true
   pub end : to ≡ from + extent (drop from s)
-  pub late : getD (drop from s) 1 0 ≤ t
+  pub late : nextOf (drop from s) ≤ t
 
 -- n states that may take a tick; state k begins at place k of the ends
 pub record PartsReady (n : ℕ) (s : List ℕ) (t : ℕ) (ends : List ℕ) : Type 0 where

@@ -143,7 +143,7 @@ fn judge(states: &[u64], n: usize, t: u64, ends: &mut [usize]) -> SetTicking
         if words == 0 {
             return SetTicking::Refused(Refusal::State(i));
         }
-        late = late_after(n, late, i, states[at + 1], t);
+        late = late_after(n, late, i, watcher::next_tick(&states[at..]), t);
         at += words;
         i += 1;
         ends[i] = at;

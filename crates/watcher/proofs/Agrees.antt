@@ -4,7 +4,7 @@ use Prim.Native.Nat.{ℕ, suc, _≤_, _<_}
 use mathlib.Core.Path.{_≡_, refl, sym, ap, subst, _∙_}
 use mathlib.Core.List.{List, [], _∷_, _++_}
 use native.Mathlib.Omega.{arith}
-use lib.ListN.{getD, drop}
+use lib.ListN.{drop}
 use Rattle.rules.specs.Limits.{argumentBytes, ticks}
 use Rattle.rules.specs.Pattern.{Pattern}
 use Rattle.rules.specs.Instances.{Has, Latest}
@@ -20,7 +20,7 @@ use Rattle.body.proofs.Bodies.{one-pattern}
 use Rattle.refusal.specs.declared.Refusal.{Refusal}
 use Rattle.watcher.specs.declared.Ticking.{Ticking}
 use Rattle.watcher.specs.declared.Ticking.the-variants as Ticks
-use Rattle.watcher.specs.State.{stateOf, roomOf, InForm}
+use Rattle.watcher.specs.State.{nextOf, stateOf, roomOf, InForm}
 use Rattle.watcher.specs.Answer.{IsOpened, IsTicked, TickRefused, over, broken, below, TickAnswers}
 use Rattle.watcher.specs.Claim.{Watched, opened, window, nothing, reported}
 use Rattle.watcher.proofs.States.{next-word}
@@ -56,7 +56,7 @@ reached-form {e} {h} b r = record {
 }
 
 reached-next : {e : Pattern} {h : List Tick} {s : List ℕ} → Reached e h s → (f : InForm s) → f .next ≡ nextTick 0 h
-reached-next r f = sym (next-word f) ∙ ap (λ (l : List ℕ). getD l 1 0) (r .same)
+reached-next r f = sym (next-word f) ∙ ap nextOf (r .same)
 
 -- opened, the words are those of no tick
 reached-opened : (e : Pattern) (b old s : List ℕ) → BodyOf argumentBytes b e → IsOpened b old s → Reached e [] s

@@ -6,13 +6,12 @@ use mathlib.Core.Bool.{true, false}
 use mathlib.Core.List.{List, [], _∷_, _++_}
 use native.Mathlib.Numerals.{add-one}
 use native.Mathlib.Omega.{arith}
-use lib.ListN.{getD}
 use Rattle.rules.proofs.Impossible.{impossible}
 use Rattle.rules.specs.Limits.{ticks}
 use Rattle.detector.specs.Step.{answer, next}
 use Rattle.refusal.specs.declared.Refusal.the-variants.{State, Range, Late}
 use Rattle.watcher.specs.declared.Ticking.the-variants.{Window, Nothing}
-use Rattle.watcher.specs.State.{cells, stateOf, InForm}
+use Rattle.watcher.specs.State.{nextOf, cells, stateOf, InForm}
 use Rattle.watcher.specs.Answer.{TickReady, IsTicked, TickRefused, over, broken, below, TickAnswers}
 use Rattle.watcher.specs.Walk.{Value, Cells, tickM, formed, ticked, lastAnswer, answerOf, wordsAfter}
 use Rattle.watcher.specs.Step.{StepsReady, StepsDone}
@@ -46,7 +45,7 @@ ticked-as-walked {s} {s′} {t} {w} {a} i =
     (i .answered ∙ sym (answer-in-form (i .form) t w (i .late)), i .words ∙ sym (words-in-form (i .form) t w (i .late)))
 
 -- what the code tests and computes is what is promised
-pub tick-ready : {s : List ℕ} {t : ℕ} → t < ticks → formed s ≡ true → getD s 1 0 ≤ t → TickReady s t
+pub tick-ready : {s : List ℕ} {t : ℕ} → t < ticks → formed s ≡ true → nextOf s ≤ t → TickReady s t
 tick-ready {s} r q l =
     let f : InForm s = formed-exactly s .0 q in
     record { form = f; late = omega (arith, next-word f); range = r }
@@ -72,14 +71,14 @@ module _ {s s′ : List ℕ} {t w a : ℕ} (i : IsTicked s s′ t w a) where
   pub ticked-window : (a ≡ 0 → ⊥) → TickAnswers s s′ t w (Window (a - 1))
   ticked-window n = let e : a ≡ suc (a - 1) = omega arith in subst (IsTicked s s′ t w) e i
 
-pub walked-as-ticked : (s : List ℕ) (t w : ℕ) → t < ticks → formed s ≡ true → getD s 1 0 ≤ t → IsTicked s (wordsAfter t w s) t w (answerOf t w s)
+pub walked-as-ticked : (s : List ℕ) (t w : ℕ) → t < ticks → formed s ≡ true → nextOf s ≤ t → IsTicked s (wordsAfter t w s) t w (answerOf t w s)
 walked-as-ticked s t w r q l = steps-ticked (tick-ready r q l) (record { answer = refl; words = refl })
 
 pub refused-form : (s : List ℕ) (t : ℕ) → t < ticks → formed s ≡ false → TickRefused s t (State 0)
 refused-form s t r q =
     broken r (λ f. let e : formed s ≡ true = formed-exactly s .1 f in impossible cc) refl
 
-pub refused-late : (s : List ℕ) (t : ℕ) → t < ticks → formed s ≡ true → t < getD s 1 0 → TickRefused s t (Late 0)
+pub refused-late : (s : List ℕ) (t : ℕ) → t < ticks → formed s ≡ true → t < nextOf s → TickRefused s t (Late 0)
 refused-late s t r q l =
     let f : InForm s = formed-exactly s .0 q in
     below r f (omega (arith, next-word f)) refl

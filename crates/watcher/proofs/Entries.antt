@@ -24,7 +24,7 @@ use Rattle.body.proofs.Entries.{Fits, entry-fits}
 use Rattle.body.proofs.Trees.{length-postfix, proper-fits}
 use Rattle.body.proofs.Machines.{run-postfix}
 use Rattle.body.proofs.Walk.{run-turn}
-use Rattle.watcher.specs.State.{wordOf, entryWords}
+use Rattle.watcher.specs.State.{countOf, wordOf, entryWords}
 use Rattle.watcher.specs.Walk.{entryIn}
 
 -- an entry that fits, and breaks no rule by itself
@@ -79,7 +79,7 @@ pub entries-words : (ss : List Entry) (s : List ℕ) (i : ℕ) (rest : List ℕ)
 unfolding entriesBy entryIn entryWords
 entries-words [] s i rest p h = refl
 entries-words (e ∷ ss) s i rest p h =
-    let q : getD s (i + 2) 0 ≡ wordOf e = first-word s i ∙ ap (λ (l : List ℕ). getD l 0 0) p in
+    let q : getD s (i + 2) 0 ≡ wordOf e = first-word s i ∙ ap countOf p in
     ap₂ (λ (t : Entry) (ts : List Entry). t ∷ ts)
     (rw q (entry-word e (h .0)))
     (entries-words ss s (i + 1) rest (drop-next s i ∙ ap (drop 1) p) (h .1))

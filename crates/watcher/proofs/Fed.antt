@@ -16,6 +16,7 @@ use Rattle.rules.specs.History.{Tick, Rising, nextTick, recordOf}
 use Rattle.rules.proofs.Decisions.{pick-no}
 use Rattle.body.specs.Claim.{BodyOf}
 use Rattle.refusal.specs.declared.Refusal.{Refusal}
+use Rattle.watcher.specs.State.{nextOf}
 use Rattle.watcher.specs.declared.Ticking.the-variants.{Window, Nothing}
 use Rattle.watcher.specs.declared.Feeding.the-variants.{Fed, Refused}
 use Rattle.watcher.specs.Answer.{IsTicked}
@@ -49,8 +50,8 @@ answer-right b e o {h} {s} {s′} t w (suc a) x l i =
     subst (Latest (Has (recordOf (h ++ ((t, w) ∷ []))) e) t) (r .1) (r .2)
 
 -- the next tick that a watched state allows
-watched-next : (b : List ℕ) (e : Pattern) → BodyOf argumentBytes b e → {h : List Tick} {s : List ℕ} → Watched b h s → getD s 1 0 ≡ nextTick 0 h
-watched-next b e o x = ap (λ (l : List ℕ). getD l 1 0) (watched-reached b e o x .same)
+watched-next : (b : List ℕ) (e : Pattern) → BodyOf argumentBytes b e → {h : List Tick} {s : List ℕ} → Watched b h s → nextOf s ≡ nextTick 0 h
+watched-next b e o x = ap nextOf (watched-reached b e o x .same)
 
 all-right : (b : List ℕ) (e : Pattern) → BodyOf argumentBytes b e → (k : List Tick) {h : List Tick} {s l s′ : List ℕ} → Watched b h s
     → AllTicked s k l s′ → AllRight e h k l
@@ -93,14 +94,14 @@ fed-as-walked (k ∷ h) (more t w a i x) =
 
 -- no tick has a fault
 fed-faultless : (ts ws : List ℕ) (i : ℕ) {s l s′ : List ℕ} → length ts ≡ length ws → AllTicked s (paired ts ws) l s′
-    → firstFault i (getD s 1 0) ts ≡ Fed
+    → firstFault i (nextOf s) ts ≡ Fed
 unfolding paired firstFault
 fed-faultless [] ws i e x = refl
 fed-faultless (t ∷ ts) [] i e x = absurd (omega arith)
 fed-faultless (t ∷ ts) (w ∷ ws) i {s} e (more {m = m} _ _ a y x) =
     let n : getD m 1 0 ≡ t + 1 = next-word (ticked-form y) ∙ sym (add-one t) in
     pick-no (decLe ticks t) _ _ (λ z. omega (arith, y .range))
-    ∙ pick-no (decLt t (getD s 1 0)) _ _ (λ z. omega (arith, y .late, next-word (y .form)))
+    ∙ pick-no (decLt t (nextOf s)) _ _ (λ z. omega (arith, y .late, next-word (y .form)))
     ∙ rw n at (fed-faultless ts ws (i + 1) (omega arith) x)
 
 one-fed : {s ts ws old s′ s″ new new′ : List ℕ} → IsFed s ts ws old s′ new → IsFed s ts ws old s″ new′ → (s′ ≡ s″) × (new ≡ new′)

@@ -19,7 +19,7 @@ use Rattle.detector.proofs.Form.{in-form}
 use Rattle.refusal.specs.declared.Refusal.{Refusal}
 use Rattle.refusal.specs.declared.Refusal.the-variants.{State, Range, Late}
 use Rattle.watcher.specs.declared.Feeding.the-variants.{Fed, Refused}
-use Rattle.watcher.specs.State.{InForm}
+use Rattle.watcher.specs.State.{nextOf, InForm}
 use Rattle.watcher.specs.Answer.{IsTicked}
 use Rattle.watcher.specs.Walk.{formed, answerOf, wordsAfter, answersFed, wordsFed}
 use Rattle.watcher.specs.Feed.{paired, AllTicked, none, more, firstFault, IsFed, FeedRefused, broken, faulty}
@@ -44,7 +44,7 @@ ticked-form {s} {s′} {t} {w} {a} i =
     }
 
 -- the walk of a tick leaves a state in form, and the next tick allowed
-module _ (s : List ℕ) (t w : ℕ) (r : t < ticks) (q : formed s ≡ true) (l : getD s 1 0 ≤ t) where
+module _ (s : List ℕ) (t w : ℕ) (r : t < ticks) (q : formed s ≡ true) (l : nextOf s ≤ t) where
   pub walked-formed : formed (wordsAfter t w s) ≡ true
   walked-formed = formed-exactly (wordsAfter t w s) .1 (ticked-form (walked-as-ticked s t w r q l))
 
@@ -87,13 +87,13 @@ module _ (ts : List ℕ) (i τ : ℕ) where
     fault-none k l = rw (drop-at ts i h) (pick-no (decLe ticks (getD ts i 0)) _ _ (λ z. omega arith) ∙ pick-no (decLt (getD ts i 0) τ) _ _ (λ z. omega arith))
 
 -- so all are taken
-pub all-ticked : (ts ws s : List ℕ) (i : ℕ) → length ts ≡ length ws → formed s ≡ true → firstFault i (getD s 1 0) ts ≡ Fed
+pub all-ticked : (ts ws s : List ℕ) (i : ℕ) → length ts ≡ length ws → formed s ≡ true → firstFault i (nextOf s) ts ≡ Fed
     → AllTicked s (paired ts ws) (answersFed (paired ts ws) s) (wordsFed (paired ts ws) s)
 unfolding paired answersFed wordsFed
 all-ticked [] ws s i e f q = none
 all-ticked (t ∷ ts) [] s i e f q = absurd (omega arith)
 all-ticked (t ∷ ts) (w ∷ ws) s i e f q =
-    let x = faultless i (getD s 1 0) t ts q in
+    let x = faultless i (nextOf s) t ts q in
     more t w (answerOf t w s) (walked-as-ticked s t w (x .range) f (x .late))
     (all-ticked ts ws (wordsAfter t w s) (i + 1) (omega arith) (walked-formed s t w (x .range) f (x .late))
     (rw (walked-next s t w (x .range) f (x .late)) (x .rest)))
@@ -104,7 +104,7 @@ pub record Feeds (s₀ ts ws old s new : List ℕ) (i : ℕ) : Type 0 where
   pub state-long : length s ≡ length s₀
   pub long : length new ≡ length old
   pub form : formed s ≡ true
-  pub sound : firstFault i (getD s 1 0) (drop i ts) ≡ Fed
+  pub sound : firstFault i (nextOf s) (drop i ts) ≡ Fed
   pub words : wordsFed (paired (drop i ts) (drop i ws)) s ≡ wordsFed (paired ts ws) s₀
   pub answers : take i new ++ answersFed (paired (drop i ts) (drop i ws)) s ≡ answersFed (paired ts ws) s₀
   pub kept : drop (length ts) new ≡ drop (length ts) old
@@ -135,8 +135,8 @@ module _ {s₀ ts ws old s new : List ℕ} {i : ℕ} (r : FeedReady s₀ ts ws o
       }
 
   module _ (h : i < length ts) where
-    first : Faultless i (getD s 1 0) (getD ts i 0) (drop (i + 1) ts)
-    first = faultless i (getD s 1 0) (getD ts i 0) (drop (i + 1) ts) (rw (drop-at ts i h) at (x .sound))
+    first : Faultless i (nextOf s) (getD ts i 0) (drop (i + 1) ts)
+    first = faultless i (nextOf s) (getD ts i 0) (drop (i + 1) ts) (rw (drop-at ts i h) at (x .sound))
 
     pairs : paired (drop i ts) (drop i ws) ≡ (getD ts i 0, getD ws i 0) ∷ paired (drop (i + 1) ts) (drop (i + 1) ws)
     unfolding paired
@@ -181,5 +181,5 @@ module _ (s ts ws old : List ℕ) (even : length ts ≡ length ws) (room : lengt
   fed-broken q =
       broken even room (λ f. let e : formed s ≡ true = formed-exactly s .1 f in impossible cc) refl
 
-  pub fed-faulty : formed s ≡ true → (r : Refusal) → firstFault 0 (getD s 1 0) ts ≡ Refused r → FeedRefused s ts ws old r
+  pub fed-faulty : formed s ≡ true → (r : Refusal) → firstFault 0 (nextOf s) ts ≡ Refused r → FeedRefused s ts ws old r
   fed-faulty q r e = let f : InForm s = formed-exactly s .0 q in faulty even room f (rw (next-word f) at e)

@@ -7,45 +7,46 @@ use Prim.Native.Nat.{ℕ, _+_, _≤_, _<_}
 use native.Mathlib.Decide.{decLe}
 use native.Mathlib.Omega.{arith}
 use lib.Dec.{leb}
-use lib.ListN.{length, getD}
+use lib.ListN.{length}
 use borrow.Author.Tests.{le-leb, lt-leb}
 use Rattle.rules.specs.Limits.{mostEntries, ticks}
+use Rattle.watcher.specs.State.{header, countOf, nextOf}
 use Rattle.watcher.specs.Walk.{isSome, judged, formed, endBy, extent}
 use Rattle.watcher.specs.Form.{sounds, cellsEnd, judgedEnd}
 
 module _ (s : List ℕ) where
-  pub formed-least : getD s 0 0 < 1 → false ≡ formed s
+  pub formed-least : countOf s < 1 → false ≡ formed s
   unfolding formed
-  formed-least h = rw (lt-leb 1 (getD s 0 0) h)
+  formed-least h = rw (lt-leb 1 (countOf s) h)
 
-  module _ (least : 1 ≤ getD s 0 0) where
-    pub formed-most : mostEntries < getD s 0 0 → false ≡ formed s
+  module _ (least : 1 ≤ countOf s) where
+    pub formed-most : mostEntries < countOf s → false ≡ formed s
     unfolding formed
-    formed-most h = rw (le-leb 1 (getD s 0 0) least, lt-leb (getD s 0 0) mostEntries h)
+    formed-most h = rw (le-leb 1 (countOf s) least, lt-leb (countOf s) mostEntries h)
 
-    module _ (most : getD s 0 0 ≤ mostEntries) where
-      pub formed-long : length s < 2 + getD s 0 0 → false ≡ formed s
+    module _ (most : countOf s ≤ mostEntries) where
+      pub formed-long : length s < header + countOf s → false ≡ formed s
       unfolding formed
-      formed-long h = rw (le-leb 1 (getD s 0 0) least, le-leb (getD s 0 0) mostEntries most, lt-leb (2 + getD s 0 0) (length s) h)
+      formed-long h = rw (le-leb 1 (countOf s) least, le-leb (countOf s) mostEntries most, lt-leb (header + countOf s) (length s) h)
 
-      module _ (long : 2 + getD s 0 0 ≤ length s) where
+      module _ (long : header + countOf s ≤ length s) where
         formed-unsound : sounds s ≡ false → false ≡ formed s
         unfolding formed sounds
-        formed-unsound q = rw (le-leb 1 (getD s 0 0) least, le-leb (getD s 0 0) mostEntries most, le-leb (2 + getD s 0 0) (length s) long, q)
+        formed-unsound q = rw (le-leb 1 (countOf s) least, le-leb (countOf s) mostEntries most, le-leb (header + countOf s) (length s) long, q)
 
-        formed-sound : sounds s ≡ true → cond (leb (getD s 1 0) ticks) (isSome (judged s)) false ≡ formed s
+        formed-sound : sounds s ≡ true → cond (leb (nextOf s) ticks) (isSome (judged s)) false ≡ formed s
         unfolding formed sounds
-        formed-sound q = rw (le-leb 1 (getD s 0 0) least, le-leb (getD s 0 0) mostEntries most, le-leb (2 + getD s 0 0) (length s) long, q)
+        formed-sound q = rw (le-leb 1 (countOf s) least, le-leb (countOf s) mostEntries most, le-leb (header + countOf s) (length s) long, q)
 
-        pub formed-early : ticks < getD s 1 0 → false ≡ formed s
+        pub formed-early : ticks < nextOf s → false ≡ formed s
         formed-early h = go (sounds s) refl
           where
             go : (b : Bool) → sounds s ≡ b → false ≡ formed s
-            go true q = rw (lt-leb (getD s 1 0) ticks h) at (formed-sound q)
+            go true q = rw (lt-leb (nextOf s) ticks h) at (formed-sound q)
             go false q = formed-unsound q
 
         -- what is judged last
-        pub extent-judged : getD s 1 0 ≤ ticks → judgedEnd s ≡ extent s
+        pub extent-judged : nextOf s ≤ ticks → judgedEnd s ≡ extent s
         unfolding extent cellsEnd judgedEnd
         extent-judged h = go (sounds s) refl
           where
@@ -54,7 +55,7 @@ module _ (s : List ℕ) where
             kept n (some l) = refl
 
             go : (b : Bool) → sounds s ≡ b → cond (sounds s) (endBy (length s) (judged s)) 0 ≡ cond (formed s) (endBy (length s) (judged s)) 0
-            go true q = rw (q, ← formed-sound q, le-leb (getD s 1 0) ticks h) (kept (length s) (judged s))
+            go true q = rw (q, ← formed-sound q, le-leb (nextOf s) ticks h) (kept (length s) (judged s))
             go false q = rw (q, ← formed-unsound q)
 
   -- the words of a state not in form
@@ -64,9 +65,9 @@ module _ (s : List ℕ) where
 
   -- a state of fewer than three words has no entry
   pub formed-short : length s < 3 → false ≡ formed s
-  formed-short h = go (decLe 1 (getD s 0 0)) (decLe (getD s 0 0) mostEntries)
+  formed-short h = go (decLe 1 (countOf s)) (decLe (countOf s) mostEntries)
     where
-      go : Dec (1 ≤ getD s 0 0) → Dec (getD s 0 0 ≤ mostEntries) → false ≡ formed s
+      go : Dec (1 ≤ countOf s) → Dec (countOf s ≤ mostEntries) → false ≡ formed s
       go (no l) m = formed-least (omega arith)
       go (yes l) (no m) = formed-most l (omega arith)
       go (yes l) (yes m) = formed-long l m (omega arith)

@@ -7,7 +7,7 @@ use mathlib.Core.List.{List, [], _∷_, _++_}
 use mathlib.Core.Option.{Option, none, some}
 use native.Mathlib.Omega.{arith}
 use lib.Dec.{leb}
-use lib.ListN.{length, getD, take, drop, length-append, take-append-drop}
+use lib.ListN.{length, take, drop, length-append, take-append-drop}
 use lib.Seq.{take-at, drop-at, length-take-le}
 use borrow.Author.Tests.{le-leb, leb-true}
 use Rattle.body.proofs.Bodies.{scan-whole}
@@ -31,7 +31,7 @@ use Rattle.body.proofs.Bodies.{length-by}
 use Rattle.body.proofs.Trees.{size-pos, length-postfix, proper-fits, fits-proper, scan-tree}
 use Rattle.cell.specs.Cell.{cellWords, possible}
 use Rattle.cell.specs.Form.{cellFits}
-use Rattle.watcher.specs.State.{entryWords, cells, stateOf, roomOf, InForm}
+use Rattle.watcher.specs.State.{header, countOf, nextOf, entryWords, cells, stateOf, roomOf, InForm}
 use Rattle.watcher.specs.Walk.{entryIn, judgeCell, onAhead, judgeM, isSome, isNone, judged, formed, endBy, extent}
 use Rattle.watcher.specs.Claim.{FormedExactly, ExtentExactly}
 use Rattle.watcher.proofs.Entries.{Fitting, words-entries, read-fits, run-tree}
@@ -152,11 +152,11 @@ judge-complete τ (within x n) m rest f = judge-complete τ x m rest f
 
 -- what the tests of the form say, one after the other
 pub record Judged (s : List ℕ) : Type 0 where
-  pub least : 1 ≤ getD s 0 0
-  pub most : getD s 0 0 ≤ mostEntries
-  pub long : 2 + getD s 0 0 ≤ length s
-  pub sound : scan (entriesBy (entryIn s) 0 (getD s 0 0)) 0 0 ≡ none
-  pub early : getD s 1 0 ≤ ticks
+  pub least : 1 ≤ countOf s
+  pub most : countOf s ≤ mostEntries
+  pub long : header + countOf s ≤ length s
+  pub sound : scan (entriesBy (entryIn s) 0 (countOf s)) 0 0 ≡ none
+  pub early : nextOf s ≤ ticks
   pub taken : isSome (judged s) ≡ true
 
 none-of : (o : Option ℕ) → isNone o ≡ true → o ≡ none
@@ -166,17 +166,17 @@ none-of (some i) q = impossible cc
 pub formed-judged : (s : List ℕ) → formed s ≡ true → Judged s
 unfolding formed
 formed-judged s q =
-    let a = both-true (leb 1 (getD s 0 0)) _ q in
-    let b = both-true (leb (getD s 0 0) mostEntries) _ (a .1) in
-    let c = both-true (leb (2 + getD s 0 0) (length s)) _ (b .1) in
-    let d = both-true (isNone (scan (entriesBy (entryIn s) 0 (getD s 0 0)) 0 0)) _ (c .1) in
-    let e = both-true (leb (getD s 1 0) ticks) _ (d .1) in
+    let a = both-true (leb 1 (countOf s)) _ q in
+    let b = both-true (leb (countOf s) mostEntries) _ (a .1) in
+    let c = both-true (leb (header + countOf s) (length s)) _ (b .1) in
+    let d = both-true (isNone (scan (entriesBy (entryIn s) 0 (countOf s)) 0 0)) _ (c .1) in
+    let e = both-true (leb (nextOf s) ticks) _ (d .1) in
     record {
-      least = leb-true 1 (getD s 0 0) (a .0);
-      most = leb-true (getD s 0 0) mostEntries (b .0);
-      long = leb-true (2 + getD s 0 0) (length s) (c .0);
-      sound = none-of (scan (entriesBy (entryIn s) 0 (getD s 0 0)) 0 0) (d .0);
-      early = leb-true (getD s 1 0) ticks (e .0);
+      least = leb-true 1 (countOf s) (a .0);
+      most = leb-true (countOf s) mostEntries (b .0);
+      long = leb-true (header + countOf s) (length s) (c .0);
+      sound = none-of (scan (entriesBy (entryIn s) 0 (countOf s)) 0 0) (d .0);
+      early = leb-true (nextOf s) ticks (e .0);
       taken = e .1;
     }
 
@@ -184,11 +184,11 @@ judged-formed : (s : List ℕ) → Judged s → formed s ≡ true
 unfolding formed
 judged-formed s j =
     rw (
-      le-leb 1 (getD s 0 0) (j .least),
-      le-leb (getD s 0 0) mostEntries (j .most),
-      le-leb (2 + getD s 0 0) (length s) (j .long),
+      le-leb 1 (countOf s) (j .least),
+      le-leb (countOf s) mostEntries (j .most),
+      le-leb (header + countOf s) (length s) (j .long),
       j .sound,
-      le-leb (getD s 1 0) ticks (j .early),
+      le-leb (nextOf s) ticks (j .early),
     ) (j .taken)
 
 -- a judge over the entries of a tree
@@ -202,7 +202,7 @@ some-of : (o : Option (List ℕ)) → isSome o ≡ true → (l : List ℕ) × (o
 some-of none q = impossible cc
 some-of (some l) q = (l, refl)
 
-two-words : (s : List ℕ) → 2 ≤ length s → s ≡ getD s 0 0 ∷ getD s 1 0 ∷ drop 2 s
+two-words : (s : List ℕ) → 2 ≤ length s → s ≡ countOf s ∷ nextOf s ∷ drop 2 s
 two-words [] h = absurd (omega arith)
 two-words (a ∷ []) h = absurd (omega arith)
 two-words (a ∷ b ∷ l) h = refl
@@ -215,8 +215,8 @@ join s n τ es ahead e m beyond q count tree same =
 judged-in-form : (s : List ℕ) → Judged s → InForm s
 unfolding judged
 judged-in-form s j =
-    let n : ℕ = getD s 0 0 in
-    let τ : ℕ = getD s 1 0 in
+    let n : ℕ = countOf s in
+    let τ : ℕ = nextOf s in
     let bound : ℕ = 256 ^ argumentBytes in
     let es : List Entry = entriesBy (entryIn s) 0 n in
     let tree : (e : Pattern) × (es ≡ postfix e) = scan-tree es (j .sound) in
@@ -246,7 +246,7 @@ pub in-form-cells : (s : List ℕ) (f : InForm s) → judged s ≡ some (f .beyo
 unfolding judged
 in-form-cells s f =
     let e : Pattern = f .pattern in
-    judge-run (getD s 1 0) (entriesBy (entryIn s) 0 (getD s 0 0)) e (some (drop (2 + getD s 0 0) s)) (entries-read f)
+    judge-run (nextOf s) (entriesBy (entryIn s) 0 (countOf s)) e (some (drop (header + countOf s) s)) (entries-read f)
     ∙ ap₂ (λ (τ : ℕ) (l : List ℕ). eval (judgeM τ) e (some l) .1) (next-word f) (cells-from f)
     ∙ judge-complete (f .next) e (f .memory) (f .beyond) (f .form)
 

@@ -24,6 +24,7 @@ use Rattle.body.proofs.Stacks.{stack-pop2}
 use Rattle.body.proofs.Walk.{run-end}
 use Rattle.cell.specs.Cell.{cellWords, possible}
 use Rattle.cell.specs.Form.{cellFits}
+use Rattle.watcher.specs.State.{header, countOf, nextOf}
 use Rattle.watcher.specs.Walk.{entryIn, judgeCell, judgeM, judged, endBy}
 use Rattle.watcher.specs.Form.{sounds, cellsEnd, judgedEnd, CellEnds}
 use Rattle.watcher.proofs.Judges.{run-none}
@@ -34,15 +35,15 @@ use Rattle.watcher.proofs.Sounds.{soundFrom, sound-turn, sound-lacks, s
 
 -- a cell at a place, judged
 module _ (s : List ℕ) (op : Op) (at y : ℕ) where
-  pub cell-taken : at + cellWords op y ≤ length s → cellFits (getD s 1 0) op (midOf at (cellWords op y) s) ≡ true
+  pub cell-taken : at + cellWords op y ≤ length s → cellFits (nextOf s) op (midOf at (cellWords op y) s) ≡ true
       → (r : ℕ) → 1 ≤ r → r ≡ at + cellWords op y → CellEnds s op at y r
   unfolding judgeCell
   cell-taken l f zero one e = absurd (omega arith)
   cell-taken l f (suc r) one e =
       let k : cellWords op y ≤ length (drop at s) = omega (arith, length-drop at s) in
-      let z : judgeCell (getD s 1 0) op y (drop at s) ≡ some (drop (at + cellWords op y) s) =
+      let z : judgeCell (nextOf s) op y (drop at s) ≡ some (drop (at + cellWords op y) s) =
       rw (le-leb (cellWords op y) (length (drop at s)) k, f, drop-drop (cellWords op y) at s) in
-      (e, omega arith, subst (λ (n : ℕ). judgeCell (getD s 1 0) op y (drop at s) ≡ some (drop n s)) (sym e) z)
+      (e, omega arith, subst (λ (n : ℕ). judgeCell (nextOf s) op y (drop at s) ≡ some (drop n s)) (sym e) z)
 
   pub cell-short : at ≤ length s → length s < at + cellWords op y → CellEnds s op at y 0
   unfolding judgeCell
@@ -50,7 +51,7 @@ module _ (s : List ℕ) (op : Op) (at y : ℕ) where
       let k : length (drop at s) < cellWords op y = omega (arith, length-drop at s) in
       rw (lt-leb (cellWords op y) (length (drop at s)) k)
 
-  pub cell-broken : at + cellWords op y ≤ length s → cellFits (getD s 1 0) op (midOf at (cellWords op y) s) ≡ false → CellEnds s op at y 0
+  pub cell-broken : at + cellWords op y ≤ length s → cellFits (nextOf s) op (midOf at (cellWords op y) s) ≡ false → CellEnds s op at y 0
   unfolding judgeCell
   cell-broken l f =
       let k : cellWords op y ≤ length (drop at s) = omega (arith, length-drop at s) in
@@ -61,10 +62,10 @@ pub record Judging (s : List ℕ) (i at : ℕ) (st : List ℕ) : Type 0 where
   pub few : total st + length st ≤ i
   pub low : 2 ≤ at
   pub inside : at ≤ length s
-  pub sound : soundFrom (entryIn s) (getD s 0 0) i (length st) ≡ sounds s
-  pub same : run (judgeM (getD s 1 0)) (entriesBy (entryIn s) i (getD s 0 0 - i)) st (some (drop at s)) .1 ≡ judged s
+  pub sound : soundFrom (entryIn s) (countOf s) i (length st) ≡ sounds s
+  pub same : run (judgeM (nextOf s)) (entriesBy (entryIn s) i (countOf s - i)) st (some (drop at s)) .1 ≡ judged s
 
-pub judging-start : (s : List ℕ) → 2 + getD s 0 0 ≤ length s → Judging s 0 (2 + getD s 0 0) []
+pub judging-start : (s : List ℕ) → header + countOf s ≤ length s → Judging s 0 (header + countOf s) []
 unfolding judged sounds total
 judging-start s h = record { few = omega arith; low = omega arith; inside = h; sound = simp sub-zero; same = simp sub-zero }
 
@@ -83,16 +84,16 @@ broken-end s q = rw q (go (sounds s))
 
 module _ {s : List ℕ} {i at : ℕ} {st : List ℕ} (x : Judging s i at st) where
   -- the end: every cell is in form, and one tree is left or not
-  module _ (h : getD s 0 0 ≤ i) where
+  module _ (h : countOf s ≤ i) where
     one-left : sounds s ≡ eqb (length st) 1
-    one-left = sym (sound-end (entryIn s) (getD s 0 0) i (length st) h ∙ x .sound)
+    one-left = sym (sound-end (entryIn s) (countOf s) i (length st) h ∙ x .sound)
 
     cells-left : cellsEnd s ≡ at
     unfolding cellsEnd
     cells-left =
         let z : judged s ≡ some (drop at s) =
         sym (x .same)
-        ∙ ap (λ (r : List ℕ × Option (List ℕ)). r .1) (run-end (judgeM (getD s 1 0)) (entryIn s) (getD s 0 0) i st (some (drop at s)) h) in
+        ∙ ap (λ (r : List ℕ × Option (List ℕ)). r .1) (run-end (judgeM (nextOf s)) (entryIn s) (countOf s) i st (some (drop at s)) h) in
         omega (arith, ap (endBy (length s)) z, length-drop at s, x .inside)
 
     pub judging-one : length st ≡ 1 → at ≡ judgedEnd s
@@ -102,23 +103,23 @@ module _ {s : List ℕ} {i at : ℕ} {st : List ℕ} (x : Judging s i at st) whe
     pub judging-other : (length st ≡ 1 → ⊥) → 0 ≡ judgedEnd s
     judging-other e = unsound-end s (one-left ∙ ne-eqb (length st) 1 e)
 
-  module _ (h : i < getD s 0 0) where
+  module _ (h : i < countOf s) where
     -- an entry that finds too few trees, or is none
     pub judging-lacks : (e : Entry) → entryIn s i ≡ e → depthOf e (length st) ≡ Lacks → 0 ≡ judgedEnd s
     judging-lacks e q d =
         unsound-end s
-        (sym (x .sound) ∙ sym (sound-lacks (entryIn s) (getD s 0 0) i (length st) h (ap (λ (a : Entry). depthOf a (length st)) q ∙ d)))
+        (sym (x .sound) ∙ sym (sound-lacks (entryIn s) (countOf s) i (length st) h (ap (λ (a : Entry). depthOf a (length st)) q ∙ d)))
 
     -- where the turn leads, by the step of its entry
-    turned : (e : Entry) → entryIn s i ≡ e → (st′ : List ℕ) (g : Option (List ℕ)) → step (judgeM (getD s 1 0)) e st (some (drop at s)) ≡ (st′, g)
-        → run (judgeM (getD s 1 0)) (entriesBy (entryIn s) (i + 1) (getD s 0 0 - (i + 1))) st′ g .1 ≡ judged s
+    turned : (e : Entry) → entryIn s i ≡ e → (st′ : List ℕ) (g : Option (List ℕ)) → step (judgeM (nextOf s)) e st (some (drop at s)) ≡ (st′, g)
+        → run (judgeM (nextOf s)) (entriesBy (entryIn s) (i + 1) (countOf s - (i + 1))) st′ g .1 ≡ judged s
     turned e q st′ g d =
         ap (λ (r : List ℕ × Option (List ℕ)). r .1)
-        (run-step (judgeM (getD s 1 0)) (entryIn s) (getD s 0 0) i st st′ (some (drop at s)) g e h q d)
+        (run-step (judgeM (nextOf s)) (entryIn s) (countOf s) i st st′ (some (drop at s)) g e h q d)
         ∙ x .same
 
-    deeper : (e : Entry) → entryIn s i ≡ e → (d : ℕ) → depthOf e (length st) ≡ To d → soundFrom (entryIn s) (getD s 0 0) (i + 1) d ≡ sounds s
-    deeper e q d k = sound-turn (entryIn s) (getD s 0 0) i (length st) d h (ap (λ (a : Entry). depthOf a (length st)) q ∙ k) ∙ x .sound
+    deeper : (e : Entry) → entryIn s i ≡ e → (d : ℕ) → depthOf e (length st) ≡ To d → soundFrom (entryIn s) (countOf s) (i + 1) d ≡ sounds s
+    deeper e q d k = sound-turn (entryIn s) (countOf s) i (length st) d h (ap (λ (a : Entry). depthOf a (length st)) q ∙ k) ∙ x .sound
 
     pub judging-letter : (n : ℕ) → entryIn s i ≡ Letter n → Judging s (i + 1) at (0 ∷ st)
     unfolding step depthOf total
@@ -142,7 +143,7 @@ module _ {s : List ℕ} {i at : ℕ} {st : List ℕ} (x : Judging s i at st) whe
       same = turned (Within n) q st (some (drop at s)) (within-same st);
     }
       where
-        within-same : (st : List ℕ) → step (judgeM (getD s 1 0)) (Within n) st (some (drop at s)) ≡ (st, some (drop at s))
+        within-same : (st : List ℕ) → step (judgeM (nextOf s)) (Within n) st (some (drop at s)) ≡ (st, some (drop at s))
         within-same [] = refl
         within-same (a ∷ st) = refl
 
@@ -160,9 +161,9 @@ module _ {s : List ℕ} {i at : ℕ} {st : List ℕ} (x : Judging s i at st) whe
     judging-no-two op q l = judging-lacks (Pair op) q (rw (lt-leb 2 (length st) l))
 
 -- an operator: its cell is in form; or not, and then neither is the state
-module _ {s : List ℕ} {i at a b : ℕ} {st : List ℕ} (x : Judging s i at (b ∷ a ∷ st)) (h : i < getD s 0 0) (op : Op) (q : entryIn s i ≡ Pair op) where
-  stepped : (g : Option (List ℕ)) → judgeCell (getD s 1 0) op b (drop at s) ≡ g
-      → run (judgeM (getD s 1 0)) (entriesBy (entryIn s) (i + 1) (getD s 0 0 - (i + 1))) (possible op a b ∷ st) g .1 ≡ judged s
+module _ {s : List ℕ} {i at a b : ℕ} {st : List ℕ} (x : Judging s i at (b ∷ a ∷ st)) (h : i < countOf s) (op : Op) (q : entryIn s i ≡ Pair op) where
+  stepped : (g : Option (List ℕ)) → judgeCell (nextOf s) op b (drop at s) ≡ g
+      → run (judgeM (nextOf s)) (entriesBy (entryIn s) (i + 1) (countOf s - (i + 1))) (possible op a b ∷ st) g .1 ≡ judged s
   unfolding step
   stepped g e = turned x h (Pair op) q (possible op a b ∷ st) g (ap (λ (r : Option (List ℕ)). (possible op a b ∷ st, r)) e)
 
@@ -182,7 +183,7 @@ module _ {s : List ℕ} {i at a b : ℕ} {st : List ℕ} (x : Judging s i at (b 
   pub judging-broken : (r : ℕ) → r ≡ 0 → CellEnds s op at b r → 0 ≡ judgedEnd s
   judging-broken zero e k =
       broken-end s
-      (sym (stepped none k) ∙ run-none (getD s 1 0) (entriesBy (entryIn s) (i + 1) (getD s 0 0 - (i + 1))) (possible op a b ∷ st))
+      (sym (stepped none k) ∙ run-none (nextOf s) (entriesBy (entryIn s) (i + 1) (countOf s - (i + 1))) (possible op a b ∷ st))
   judging-broken (suc r) e k = absurd (omega arith)
 
 -- the stack in an array

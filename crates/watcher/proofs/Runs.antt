@@ -5,7 +5,7 @@ use mathlib.Core.Path.{_≡_, subst}
 use mathlib.Core.List.{List, [], _∷_, _++_, append-assoc, append-nil}
 use native.Mathlib.Nat.{sub-zero}
 use native.Mathlib.Omega.{arith}
-use lib.ListN.{length, getD, drop, length-append}
+use lib.ListN.{length, drop, length-append}
 use Rattle.detector.proofs.Form.{p-size}
 use Rattle.rules.specs.declared.Op.{Op}
 use Rattle.rules.specs.Limits.{letters, argumentBytes}
@@ -24,7 +24,7 @@ use Rattle.body.specs.Machine.{step, run}
 use Rattle.body.proofs.Scan.{left-suc}
 use Rattle.body.proofs.Bodies.{length-by}
 use Rattle.cell.specs.Cell.{cellWords}
-use Rattle.watcher.specs.State.{cells, InForm}
+use Rattle.watcher.specs.State.{header, countOf, cells, InForm}
 use Rattle.watcher.specs.Walk.{Value, Cells, entryIn, tickM, ticked}
 use Rattle.watcher.proofs.Cells.{left, right, own, cells-ahead, form-left, form-right, length-own}
 use Rattle.watcher.proofs.Starts.{padded, length-padded}
@@ -130,7 +130,7 @@ module _ (t w τ : ℕ) (k : τ ≤ t) where
 
 -- a state in form: where the walk begins
 pub runs-start : {s : List ℕ} (f : InForm s) (t w : ℕ) → f .next ≤ t
-    → Runs t w 0 (entriesBy (entryIn s) 0 (getD s 0 0 - 0)) [] ([], drop (2 + getD s 0 0) s)
+    → Runs t w 0 (entriesBy (entryIn s) 0 (countOf s - 0)) [] ([], drop (header + countOf s) s)
 unfolding startsOn
 runs-start {s} f t w k =
     let e : Pattern = f .pattern in
@@ -141,14 +141,14 @@ runs-start {s} f t w k =
       low = omega arith;
       few = omega (arith, p-size e, length-padded e (next e m t w));
     } in
-    rw (sub-zero (getD s 0 0), entries-read f, cells-from f, ← append-nil (postfix e))
+    rw (sub-zero (countOf s), entries-read f, cells-from f, ← append-nil (postfix e))
     (runs-postfix t w (f .next) k e (f .bodied .proper) m (f .form) [] [] 0 [] (f .beyond) tt (omega arith) end)
 
 -- and what it comes to
 pub walk-start : (t w : ℕ) (s : List ℕ)
-    → run (tickM t w) (entriesBy (entryIn s) 0 (getD s 0 0 - 0)) [] ([], drop (2 + getD s 0 0) s) ≡ ticked t w s
+    → run (tickM t w) (entriesBy (entryIn s) 0 (countOf s - 0)) [] ([], drop (header + countOf s) s) ≡ ticked t w s
 unfolding ticked
-walk-start t w s = rw (sub-zero (getD s 0 0))
+walk-start t w s = rw (sub-zero (countOf s))
 
 entries-turn : (f : ℕ → Entry) (n i : ℕ) → i < n → entriesBy f i (n - i) ≡ f i ∷ entriesBy f (i + 1) (n - (i + 1))
 unfolding entriesBy

@@ -4,14 +4,14 @@ use Prim.Native.Nat.{ℕ, _+_, _≤_}
 use mathlib.Core.Path.{_≡_, sym, ap, _∙_}
 use mathlib.Core.List.{List, _∷_, _++_, append-assoc}
 use native.Mathlib.Omega.{arith}
-use lib.ListN.{length, getD, take, drop, length-append}
+use lib.ListN.{length, take, drop, length-append}
 use lib.Seq.{take-at, drop-at, take-add, drop-drop}
 use Rattle.rules.specs.Pattern.{Pattern, size}
 use Rattle.detector.specs.Memory.{Memory}
 use Rattle.body.specs.Entry.{entriesBy}
 use Rattle.body.specs.Postfix.{postfix}
 use Rattle.body.proofs.Trees.{length-postfix}
-use Rattle.watcher.specs.State.{entryWords, cells, stateOf, roomOf, InForm}
+use Rattle.watcher.specs.State.{header, countOf, nextOf, entryWords, cells, stateOf, roomOf, InForm}
 use Rattle.watcher.specs.Walk.{entryIn}
 use Rattle.watcher.proofs.Cells.{length-cells}
 use Rattle.watcher.proofs.Entries.{entries-in, length-words}
@@ -32,34 +32,34 @@ module _ {s : List ℕ} (f : InForm s) where
   parts : s ≡ size (f .pattern) ∷ f .next ∷ (entryWords (postfix (f .pattern)) ++ (cells (f .pattern) (f .memory) ++ f .beyond))
   parts = f .same ∙ state-parts (f .pattern) (f .next) (f .memory) (f .beyond)
 
-  pub count-word : getD s 0 0 ≡ size (f .pattern)
-  count-word = ap (λ (l : List ℕ). getD l 0 0) parts
+  pub count-word : countOf s ≡ size (f .pattern)
+  count-word = ap countOf parts
 
-  pub next-word : getD s 1 0 ≡ f .next
-  next-word = ap (λ (l : List ℕ). getD l 1 0) parts
+  pub next-word : nextOf s ≡ f .next
+  next-word = ap nextOf parts
 
   after-two : drop 2 s ≡ entryWords (postfix (f .pattern)) ++ (cells (f .pattern) (f .memory) ++ f .beyond)
   after-two = ap (drop 2) parts
 
-  pub entries-read : entriesBy (entryIn s) 0 (getD s 0 0) ≡ postfix (f .pattern)
+  pub entries-read : entriesBy (entryIn s) 0 (countOf s) ≡ postfix (f .pattern)
   entries-read = rw count-word (entries-in (f .pattern) (f .bodied .proper) s (cells (f .pattern) (f .memory) ++ f .beyond) after-two)
 
-  pub cells-from : drop (2 + getD s 0 0) s ≡ cells (f .pattern) (f .memory) ++ f .beyond
+  pub cells-from : drop (header + countOf s) s ≡ cells (f .pattern) (f .memory) ++ f .beyond
   cells-from =
-      sym (drop-drop (getD s 0 0) 2 s)
+      sym (drop-drop (countOf s) 2 s)
       ∙ rw (after-two, count-word)
       (drop-at (entryWords (postfix (f .pattern))) (cells (f .pattern) (f .memory) ++ f .beyond) (size (f .pattern))
       (length-entry-words (f .pattern)))
 
-  pub front-words : take (2 + getD s 0 0) s ≡ size (f .pattern) ∷ f .next ∷ entryWords (postfix (f .pattern))
+  pub front-words : take (header + countOf s) s ≡ size (f .pattern) ∷ f .next ∷ entryWords (postfix (f .pattern))
   front-words =
-      take-add 2 (getD s 0 0) s
+      take-add 2 (countOf s) s
       ∙ rw (after-two, count-word, parts)
       (ap (λ (l : List ℕ). size (f .pattern) ∷ f .next ∷ l)
       (take-at (entryWords (postfix (f .pattern))) (cells (f .pattern) (f .memory) ++ f .beyond) (size (f .pattern))
       (length-entry-words (f .pattern))))
 
-  pub state-long : 2 + getD s 0 0 ≤ length s
+  pub state-long : header + countOf s ≤ length s
   state-long =
       omega (
         arith,

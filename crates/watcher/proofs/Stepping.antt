@@ -14,6 +14,7 @@ use Rattle.body.specs.Stack.{stackBy}
 use Rattle.body.proofs.Stacks.{stack-pop}
 use Rattle.cell.specs.Cell.{cellWords, cellAnswer, cellAfter, startsAfter}
 use Rattle.cell.proofs.WordLaws.{length-after, length-starts-after}
+use Rattle.watcher.specs.State.{header, countOf}
 use Rattle.watcher.specs.Walk.{entryIn, letterAnswer, withinAnswer, lastAnswer, answerOf}
 use Rattle.watcher.specs.Step.{segment, over, PairReady, PairDone, StackFor, StepsReady, StepsDone}
 use Rattle.watcher.proofs.States.{count-word, state-long}
@@ -37,16 +38,16 @@ pub record Stepping (deep many t w : ℕ) (old s answers base starts : List ℕ)
   pub walking : Walking t w old s i at (values answers base starts d)
 
 -- the words of the entries are there
-pub ready-long : {s : List ℕ} {t : ℕ} → StepsReady s t → 2 + getD s 0 0 ≤ length s
+pub ready-long : {s : List ℕ} {t : ℕ} → StepsReady s t → header + countOf s ≤ length s
 ready-long {s} r = state-long (formed-exactly s .0 (r .form))
 
 -- and they are at most 63
-pub few-entries : {s : List ℕ} {t : ℕ} → StepsReady s t → getD s 0 0 ≤ mostEntries
+pub few-entries : {s : List ℕ} {t : ℕ} → StepsReady s t → countOf s ≤ mostEntries
 few-entries {s} r = let f = formed-exactly s .0 (r .form) in omega (arith, count-word f, f .bodied .few)
 
 -- arrays of 32, 33 and 62 words are a stack for any state
 pub large-stack : {s : List ℕ} {t : ℕ} {answers base starts : List ℕ} → StepsReady s t → length answers ≡ 32 → length base ≡ 33
-    → length starts ≡ 62 → getD base 0 0 ≡ 0 → StackFor (getD s 0 0) answers base starts
+    → length starts ≡ 62 → getD base 0 0 ≡ 0 → StackFor (countOf s) answers base starts
 large-stack r a b c z = record {
   deep = omega (arith, few-entries r, a);
   based = omega (arith, a, b);
@@ -56,7 +57,7 @@ large-stack r a b c z = record {
 }
 
 pub stepping-start : (t w : ℕ) (s answers base starts : List ℕ) → StepsReady s t
-    → StackFor (getD s 0 0) answers base starts → Stepping (length answers) (length starts) t w s s answers base starts (2 + getD s 0 0) 0 0
+    → StackFor (countOf s) answers base starts → Stepping (length answers) (length starts) t w s s answers base starts (header + countOf s) 0 0
 unfolding stackBy
 stepping-start t w s answers base starts r k = record {
   within = omega arith;

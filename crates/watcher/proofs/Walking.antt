@@ -17,7 +17,7 @@ use Rattle.body.specs.Machine.{step, run}
 use Rattle.body.proofs.Walk.{run-end}
 use Rattle.cell.specs.Cell.{cellWords, cellAnswer, cellAfter, startsAfter}
 use Rattle.cell.proofs.WordLaws.{length-after}
-use Rattle.watcher.specs.State.{InForm}
+use Rattle.watcher.specs.State.{header, countOf, nextOf, InForm}
 use Rattle.watcher.specs.Walk.{Value, Cells, entryIn, tickPair, letterAnswer, withinAnswer, tickM}
 use Rattle.watcher.specs.Walk.{formed, ticked, lastAnswer, answerOf, wordsAfter}
 use Rattle.watcher.proofs.Entries.{run-step}
@@ -37,14 +37,14 @@ pub record Walking (t w : ℕ) (old s : List ℕ) (i at : ℕ) (st : List Value)
   pub runs : Runs t w i (entriesBy (entryIn old) i (getD old 0 0 - i)) st cells
   pub same : run (tickM t w) (entriesBy (entryIn old) i (getD old 0 0 - i)) st cells ≡ ticked t w old
 
-pub walking-start : (t w : ℕ) (s : List ℕ) → formed s ≡ true → getD s 1 0 ≤ t → Walking t w s s 0 (2 + getD s 0 0) []
+pub walking-start : (t w : ℕ) (s : List ℕ) → formed s ≡ true → nextOf s ≤ t → Walking t w s s 0 (header + countOf s) []
 walking-start t w s q l =
     let f : InForm s = formed-exactly s .0 q in
     let k : f .next ≤ t = omega (arith, next-word f) in
     record {
       form = f;
       late = k;
-      cells = ([], drop (2 + getD s 0 0) s);
+      cells = ([], drop (header + countOf s) s);
       held = held-start s (state-long f);
       runs = runs-start f t w k;
       same = walk-start t w s;

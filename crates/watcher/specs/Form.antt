@@ -13,12 +13,12 @@ use Rattle.body.specs.declared.Entry.the-variants.{Letter, Pair, Within, Wrong}
 use Rattle.body.specs.Entry.{entriesBy, entryAt}
 use Rattle.body.specs.Check.{scan}
 use Rattle.cell.specs.Cell.{cellWords}
-use Rattle.watcher.specs.State.{wordOf}
+use Rattle.watcher.specs.State.{header, countOf, nextOf, wordOf}
 use Rattle.watcher.specs.Walk.{cellsNeeded, entryIn, isNone, judgeCell, judged, endBy}
 
 -- the entries of a state break no rule
 unfoldable pub sounds : List ℕ → Bool
-sounds s = isNone (scan (entriesBy (entryIn s) 0 (getD s 0 0)) 0 0)
+sounds s = isNone (scan (entriesBy (entryIn s) 0 (countOf s)) 0 0)
 
 -- where the cells end, 0 if one is not there or not in form
 unfoldable pub cellsEnd : List ℕ → ℕ
@@ -26,9 +26,9 @@ cellsEnd s = endBy (length s) (judged s)
 
 -- n is the number of entries, 1 to 63, and their words are there
 pub record Entered (s : List ℕ) (n : ℕ) : Type 0 where
-  pub count : n ≡ getD s 0 0
+  pub count : n ≡ countOf s
   pub most : n ≤ mostEntries
-  pub long : 2 + n ≤ length s
+  pub long : header + n ≤ length s
 
 -- where the cells end, 0 if the entries break a rule
 unfoldable pub judgedEnd : List ℕ → ℕ
@@ -36,14 +36,14 @@ judgedEnd s = cond (sounds s) (cellsEnd s) 0
 
 -- a cell may be judged at a place
 pub record CellReady (s : List ℕ) (at : ℕ) : Type 0 where
-  pub low : 2 ≤ at
+  pub low : header ≤ at
   pub inside : at ≤ length s
 
 -- r is the place after the cell, 0 if it is not there or not in form
 abbrev pub CellEnds : List ℕ → Op → ℕ → ℕ → ℕ → Type 0
-CellEnds s op at y zero = judgeCell (getD s 1 0) op y (drop at s) ≡ none
+CellEnds s op at y zero = judgeCell (nextOf s) op y (drop at s) ≡ none
 CellEnds s op at y (suc e) =
-    (suc e ≡ at + cellWords op y) × (suc e ≤ length s) × (judgeCell (getD s 1 0) op y (drop at s) ≡ some (drop (suc e) s))
+    (suc e ≡ at + cellWords op y) × (suc e ≤ length s) × (judgeCell (nextOf s) op y (drop at s) ≡ some (drop (suc e) s))
 
 -- an entry whose word fits 64 bits
 abbrev pub Narrow : Entry → Type 0
@@ -69,4 +69,4 @@ zeros j = 0
 pub record OpenReady (b s : List ℕ) (n cells : ℕ) : Type 0 where
   pub whole : length b ≡ 5 * n
   pub cells-sum : cells ≡ cellsNeeded b
-  pub room : 2 + n + cells ≤ length s
+  pub room : header + n + cells ≤ length s

@@ -2,6 +2,7 @@
 use mathlib.Core.Path.{_≡_}
 use mathlib.Core.List.{List, [], _∷_, _++_}
 use Prim.Native.Nat.{ℕ, _+_, _*_, _≤_}
+use lib.ListN.{getD}
 use Rattle.rules.specs.declared.Op.the-variants.{Either, Both, Without, Chain}
 use Rattle.rules.specs.Limits.{argumentBytes, ticks}
 use Rattle.rules.specs.Pattern.{Pattern, event, pair, within, size}
@@ -14,6 +15,19 @@ use Rattle.body.specs.Entry.{opNumber}
 use Rattle.body.specs.Postfix.{postfix, Bodied}
 use Rattle.cell.specs.Words.{spanWords, keptWords}
 use Rattle.cell.specs.Cell.{cellWords}
+
+-- a state begins with two words, its header: the number of entries, and the next tick allowed
+abbrev pub header : ℕ
+header = 2
+
+abbrev pub countOf : List ℕ → ℕ
+countOf s = getD s 0 0
+
+abbrev pub nextAt : ℕ
+nextAt = 1
+
+abbrev pub nextOf : List ℕ → ℕ
+nextOf s = getD s nextAt 0
 
 -- an entry as op + 256 times argument
 abbrev pub wordOf : Entry → ℕ
@@ -46,7 +60,7 @@ cellRoom (pair op x y) = cellRoom x + cellRoom y + cellWords op (p y)
 cellRoom (within x n) = cellRoom x
 
 abbrev pub roomOf : Pattern → ℕ
-roomOf e = 2 + size e + cellRoom e
+roomOf e = header + size e + cellRoom e
 
 -- a state in form: the words of a pattern, a next tick and a memory in form, and any words beyond
 pub record InForm (s : List ℕ) : Type 0 where

@@ -9,13 +9,14 @@ use Rattle.rules.specs.declared.Op.the-variants.{Either, Both, Without, Chain}
 use Rattle.rules.specs.Limits.{ticks}
 use Rattle.cell.specs.Cell.{cellWords, possible, cellAnswer, cellAfter, startsAfter}
 use Rattle.watcher.specs.declared.Feeding.the-variants.{Fed}
+use Rattle.watcher.specs.State.{nextOf}
 use Rattle.watcher.specs.Walk.{formed, answerOf, wordsAfter, answersFed, wordsFed}
 use Rattle.watcher.specs.Feed.{paired, firstFault}
 
 -- a state may take a tick
 pub record StepsReady (s : List ℕ) (t : ℕ) : Type 0 where
   pub form : formed s ≡ true
-  pub late : getD s 1 0 ≤ t
+  pub late : nextOf s ≤ t
   pub range : t < ticks
 
 -- it took it, with the answer r
@@ -36,7 +37,7 @@ pub record FeedReady (s ts ws old : List ℕ) : Type 0 where
   pub form : formed s ≡ true
   pub even : length ts ≡ length ws
   pub room : length ts ≤ length old
-  pub sound : firstFault 0 (getD s 1 0) ts ≡ Fed
+  pub sound : firstFault 0 (nextOf s) ts ≡ Fed
 
 -- it took them
 pub record FeedDone (s ts ws old s′ new : List ℕ) : Type 0 where

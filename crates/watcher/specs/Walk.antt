@@ -18,7 +18,7 @@ use Rattle.body.specs.Check.{scan}
 use Rattle.body.specs.Machine.{Machine, run}
 use Rattle.cell.specs.Cell.{cellWords, possible, cellAnswer, cellAfter, startsAfter}
 use Rattle.cell.specs.Form.{cellFits}
-use Rattle.watcher.specs.State.{entryWords}
+use Rattle.watcher.specs.State.{header, countOf, nextAt, nextOf, entryWords}
 
 -- p on the stack, and the words of the cells so far
 abbrev pub roomM : Machine
@@ -37,7 +37,7 @@ cellsNeeded b = run roomM (entries argumentBytes b) [] 0 .1
 
 -- the words of its state
 unfoldable pub wordsNeeded : List ℕ → ℕ
-wordsNeeded b = 2 + length b / (argumentBytes + 1) + cellsNeeded b
+wordsNeeded b = header + length b / (argumentBytes + 1) + cellsNeeded b
 
 -- the words as opening leaves them: the number of entries, no tick yet, the entries, no pair in any cell, and the words beyond as they were
 unfoldable pub wordsOpened : List ℕ → List ℕ → List ℕ
@@ -46,7 +46,7 @@ wordsOpened b old =
 
 -- entry i of a state
 unfoldable pub entryIn : List ℕ → ℕ → Entry
-entryIn s i = entryOf argumentBytes (getD s (i + 2) 0 % 256) (getD s (i + 2) 0 / 256)
+entryIn s i = entryOf argumentBytes (getD s (i + header) 0 % 256) (getD s (i + header) 0 / 256)
 
 -- the words of a cell judged: those after it, or none if they are too few or not in form
 unfoldable pub judgeCell : ℕ → Op → ℕ → List ℕ → Option (List ℕ)
@@ -78,13 +78,13 @@ isNone (some i) = false
 
 -- the words beyond the cells of a state, or none if a cell is not in form
 unfoldable pub judged : List ℕ → Option (List ℕ)
-judged s = run (judgeM (getD s 1 0)) (entriesBy (entryIn s) 0 (getD s 0 0)) [] (some (drop (2 + getD s 0 0) s)) .1
+judged s = run (judgeM (nextOf s)) (entriesBy (entryIn s) 0 (countOf s)) [] (some (drop (header + countOf s) s)) .1
 
 -- the state is in form, computed: the number of entries, their words, a sound body, the next tick, and every cell
 unfoldable pub formed : List ℕ → Bool
 formed s =
-    cond (leb 1 (getD s 0 0)) (cond (leb (getD s 0 0) mostEntries) (cond (leb (2 + getD s 0 0) (length s))
-    (cond (isNone (scan (entriesBy (entryIn s) 0 (getD s 0 0)) 0 0)) (cond (leb (getD s 1 0) ticks)
+    cond (leb 1 (countOf s)) (cond (leb (countOf s) mostEntries) (cond (leb (header + countOf s) (length s))
+    (cond (isNone (scan (entriesBy (entryIn s) 0 (countOf s)) 0 0)) (cond (leb (nextOf s) ticks)
     (isSome (judged s)) false) false) false) false) false
 
 -- where the words of a state end, of n words in all, by those beyond them: 0 for none
@@ -130,7 +130,7 @@ tickM t w =
 
 -- all the entries of a state: the stack, and the cells written and ahead
 unfoldable pub ticked : ℕ → ℕ → List ℕ → List Value × Cells
-ticked t w s = run (tickM t w) (entriesBy (entryIn s) 0 (getD s 0 0)) [] ([], drop (2 + getD s 0 0) s)
+ticked t w s = run (tickM t w) (entriesBy (entryIn s) 0 (countOf s)) [] ([], drop (header + countOf s) s)
 
 -- the answer of the last entry
 abbrev pub lastAnswer : List Value → ℕ
@@ -142,7 +142,7 @@ answerOf t w s = lastAnswer (ticked t w s .0)
 
 -- the words after the tick: the cells as they become, and the next tick allowed
 unfoldable pub wordsAfter : ℕ → ℕ → List ℕ → List ℕ
-wordsAfter t w s = set (take (2 + getD s 0 0) s ++ (ticked t w s .1 .0 ++ ticked t w s .1 .1)) 1 (t + 1)
+wordsAfter t w s = set (take (header + countOf s) s ++ (ticked t w s .1 .0 ++ ticked t w s .1 .1)) nextAt (t + 1)
 
 -- ticks one after the other: their answers, and the words after them
 unfoldable pub answersFed : List Tick → List ℕ → List ℕ

@@ -1,18 +1,21 @@
 // The judge of a state: its entries, and each cell in turn.
+use crate::HEADER;
+use crate::NEXT;
 use body::Entry;
 use rules::Op;
 ghost use mathlib.Core.Path.{_≡_};
 ghost use Prim.Native.Nat.{_+_, _<_};
 ghost use lib.ListN.{length};
+ghost use Rattle.watcher.specs.State.{header};
 ghost use Rattle.watcher.specs.Walk.{entryIn};
 ghost use Rattle.watcher.specs.Form.{Entered, CellReady, CellEnds, judgedEnd};
 
 // Entry i of a state.
 pub(crate) fn entry_in(state: &[u64], i: usize) -> Entry
-    requires { ⌜ i + 2 < length (now state) ⌝ }
+    requires { ⌜ i + header < length (now state) ⌝ }
     ensures { λ r. ⌜ r ≡ entryIn (now (state .entry)) i ⌝ }
 {
-    let word = state[i + 2];
+    let word = state[i + HEADER];
     body::decode(word % 256, word / 256)
 }
 
@@ -24,7 +27,7 @@ pub(crate) fn judged_end(state: &[u64], n: usize) -> usize
 {
     let mut possible = [0u8; 64];
     let mut d: usize = 0;
-    let mut at = 2 + n;
+    let mut at = HEADER + n;
     let mut i: usize = 0;
     while i < n {
         let entry = entry_in(state, i);
@@ -68,7 +71,7 @@ fn cell_end(op: Op, state: &[u64], at: usize, y: u8) -> usize
     if state.len() < end {
         return 0;
     }
-    if cell::in_form(op, &state[at..end], state[1]) {
+    if cell::in_form(op, &state[at..end], state[NEXT]) {
         return end;
     }
     0

@@ -19,8 +19,15 @@ ghost use Rattle.body.specs.Check.{checkOf};
 ghost use Rattle.watcher.specs.Answer.{RoomAnswers, OpenAnswers, TickAnswers, TickReady, IsTicked};
 ghost use Rattle.watcher.specs.Feed.{FeedAnswers, firstFault};
 ghost use Rattle.watcher.specs.Walk.{cellsNeeded, wordsOpened, extent};
-ghost use Rattle.watcher.specs.State.{wordOf};
+ghost use Rattle.watcher.specs.State.{header, nextOf, wordOf};
 ghost use Rattle.watcher.specs.Form.{Narrow, Put, wordsOf, zeros, OpenReady};
+
+// A state begins with its header: the number of entries, then the next tick allowed.
+pub(crate) const COUNT: usize = 0;
+
+pub(crate) const NEXT: usize = 1;
+
+pub(crate) const HEADER: usize = 2;
 
 // How many words a state takes.
 pub enum Needed {
@@ -53,7 +60,7 @@ pub fn room(body: &[u8]) -> Needed
 {
     match body::check_body(body) {
         BodyCheck::Refused(r) => Needed::Refused(r),
-        BodyCheck::Sound => Needed::Words(2 + body.len() / ENTRY_BYTES + cells_needed(body)),
+        BodyCheck::Sound => Needed::Words(HEADER + body.len() / ENTRY_BYTES + cells_needed(body)),
     }
 }
 
@@ -66,7 +73,7 @@ pub fn open(body: &[u8], state: &mut [u64]) -> Opening
         BodyCheck::Sound => {
             let n = body.len() / ENTRY_BYTES;
             let cells = cells_needed(body);
-            let needed = 2 + n + cells;
+            let needed = HEADER + n + cells;
             if state.len() < needed {
                 return Opening::Refused(Refusal::Room(needed));
             }
@@ -86,7 +93,7 @@ pub fn tick(state: &mut [u64], t: u64, events: u32) -> Ticking
     if extent(state) == 0 {
         return Ticking::Refused(Refusal::State(0));
     }
-    if t < state[1] {
+    if t < next_tick(state) {
         return Ticking::Refused(Refusal::Late(0));
     }
     let answer = step(state, t, events);
@@ -109,7 +116,7 @@ pub fn feed(state: &mut [u64], ticks: &[u64], events: &[u32], answers: &mut [u64
         return Feeding::Refused(Refusal::Room(ticks.len()));
     }
     if 0 < extent(state) {
-        match first_fault(ticks, state[1]) {
+        match first_fault(ticks, next_tick(state)) {
             Feeding::Refused(r) => {
                 return Feeding::Refused(r);
             }
@@ -126,10 +133,10 @@ pub fn feed(state: &mut [u64], ticks: &[u64], events: &[u32], answers: &mut [u64
 pub fn extent(state: &[u64]) -> usize
     ensures { λ r. ⌜ r ≡ extent (now (state .entry)) ⌝ }
 {
-    if state.len() < 3 {
+    if state.len() <= HEADER {
         return 0;
     }
-    let count = state[0];
+    let count = state[COUNT];
     if count < 1 {
         return 0;
     }
@@ -137,13 +144,23 @@ pub fn extent(state: &[u64]) -> usize
         return 0;
     }
     let n = count as usize;
-    if state.len() < 2 + n {
+    if state.len() < HEADER + n {
         return 0;
     }
-    if TICKS < state[1] {
+    if TICKS < state[NEXT] {
         return 0;
     }
     form::judged_end(state, n)
+}
+
+// The next tick that the state at the front of a slice allows, 0 if the slice ends before that word.
+pub fn next_tick(state: &[u64]) -> u64
+    ensures { λ r. ⌜ r ≡ nextOf (now (state .entry)) ⌝ }
+{
+    if state.len() <= NEXT {
+        return 0;
+    }
+    state[NEXT]
 }
 
 // Takes a tick that the state is known to accept, and gives start + 1 of the window that ends at the tick, or 0 for none.
@@ -153,7 +170,7 @@ pub fn step(state: &mut [u64], t: u64, events: u32) -> u64
     requires { ⌜ TickReady (now state) t ⌝ }
     ensures { λ r. ⌜ IsTicked (now (state .entry)) (now (state .exit)) t events r ⌝ }
 {
-    if state[0] < 16 {
+    if state[COUNT] < 16 {
         return walk::step_small(state, t, events);
     }
     walk::step_large(state, t, events)
@@ -184,20 +201,20 @@ fn write_opened(body: &[u8], state: &mut [u64], n: usize, cells: usize)
     requires { ⌜ OpenReady (now body) (now state) n cells ⌝ }
     ensures { λ _. ⌜ now (state .exit) ≡ wordsOpened (now (body .entry)) (now (state .entry)) ⌝ }
 {
-    state[0] = n as u64;
-    state[1] = 0;
+    state[COUNT] = n as u64;
+    state[NEXT] = 0;
     write_entries(body, state, n);
-    clear(state, 2 + n, cells);
+    clear(state, HEADER + n, cells);
 }
 
-// The words of n entries, after the first two words.
+// The words of n entries, after the header.
 fn write_entries(body: &[u8], state: &mut [u64], n: usize)
-    requires { ⌜ 2 + n ≤ length (now state) ⌝ }
-    ensures { λ _. ⌜ Put (wordsOf (now (body .entry))) 2 n (now (state .entry)) (now (state .exit)) ⌝ }
+    requires { ⌜ header + n ≤ length (now state) ⌝ }
+    ensures { λ _. ⌜ Put (wordsOf (now (body .entry))) header n (now (state .entry)) (now (state .exit)) ⌝ }
 {
     let mut i: usize = 0;
     while i < n {
-        state[2 + i] = word_at(body, i);
+        state[HEADER + i] = word_at(body, i);
         i += 1;
     }
 }

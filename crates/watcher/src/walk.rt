@@ -1,16 +1,20 @@
 // A tick over the words of a state.
+use crate::COUNT;
+use crate::HEADER;
+use crate::NEXT;
 use body::Entry;
 use rules::Op;
 ghost use mathlib.Core.Path.{_≡_};
 ghost use Prim.Native.Nat.{_<_};
 ghost use lib.ListN.{getD};
 ghost use Rattle.rules.specs.Limits.{ticks};
+ghost use Rattle.watcher.specs.State.{countOf};
 ghost use Rattle.watcher.specs.Walk.{letterAnswer, withinAnswer};
 ghost use Rattle.watcher.specs.Step.{StackFor, StepsReady, StepsDone, FeedReady, FeedDone, ownFrom, PairReady, PairDone};
 
 // For up to 15 entries: at most 8 answers and 14 possible starts.
 pub(crate) fn step_small(state: &mut [u64], t: u64, events: u32) -> u64
-    requires { ⌜ StepsReady (now state) t × (getD (now state) 0 0 < 16) ⌝ }
+    requires { ⌜ StepsReady (now state) t × (countOf (now state) < 16) ⌝ }
     ensures { λ r. ⌜ StepsDone (now (state .entry)) t events (now (state .exit)) r ⌝ }
 {
     let mut answers = [0u64; 8];
@@ -40,11 +44,11 @@ fn step_over(
     base: &mut [usize],
     starts: &mut [u64],
 ) -> u64
-    requires { ⌜ StepsReady (now state) t × StackFor (getD (now state) 0 0) (now answers) (now base) (now starts) ⌝ }
+    requires { ⌜ StepsReady (now state) t × StackFor (countOf (now state)) (now answers) (now base) (now starts) ⌝ }
     ensures { λ r. ⌜ StepsDone (now (state .entry)) t events (now (state .exit)) r × (getD (now (base .exit)) 0 0 ≡ 0) ⌝ }
 {
-    let n = state[0] as usize;
-    let mut at = 2 + n;
+    let n = state[COUNT] as usize;
+    let mut at = HEADER + n;
     let mut d: usize = 0;
     let mut i: usize = 0;
     while i < n {
@@ -66,7 +70,7 @@ fn step_over(
             Entry::Wrong => {}
         }
     }
-    state[1] = t + 1;
+    state[NEXT] = t + 1;
     answers[0]
 }
 

@@ -1,13 +1,15 @@
 -- `set::judge` meets its contract: the invariant is `Judging`, the measure the states left. Assumes nothing.
 use mathlib.Core.Path.{_≡_, ap, _∙_}
-use Prim.Native.Nat.{_+_, _-_, _<_}
+use Prim.Native.Nat.{ℕ, _+_, _-_, _<_}
 use native.Mathlib.Omega.{arith}
 use lib.ListN.{drop}
 use borrow.Author.Needs.{needs}
 use Rattle.rules.proofs.Lists.{drop-part}
+use Rattle.watcher.specs.State.{nextOf}
 use Rattle.watcher.specs.Walk.{extent}
+use Rattle.set.specs.Calls.{lateAfter}
 use Rattle.set.proofs.Judges.{Judging, judging-start, judging-late, judging-end, judging-broken}
-use Rattle.set.proofs.Judges.{judging-within, judging-two, judging-more}
+use Rattle.set.proofs.Judges.{judging-within, judging-more}
 use Rattle.set.proofs.judge.Statement.{statement}
 use Rattle.set.proofs.judge.Tie as tie
 
@@ -27,6 +29,19 @@ some : (c : tie.Else1 Inv-loop μ-loop)
     → let k = c .before .before .before .before in
     0 < extent (drop (k .loop .at) (k .before .before .before .args .states .now))
 some c = omega (arith, words (c .before))
+
+-- the lowest late state, by the next tick of state i
+late : (c : tie.After-late-after Inv-loop μ-loop)
+    → let k = c .before .before .before .before .before .before .before in
+    let a = k .before .before .before .args in
+    c .late-after .result ≡ lateAfter (a .n) (k .loop .late) (k .loop .i) (nextOf (drop (k .loop .at) (a .states .now))) (a .t)
+late c =
+    let n = c .before in
+    let k = n .before .before .before .before .before .before in
+    let a = k .before .before .before .args in
+    c .late-after .ensures
+    ∙ ap (λ (z : ℕ). lateAfter (a .n) (k .loop .late) (k .loop .i) z (a .t))
+    (n .next-tick .ensures ∙ ap nextOf (drop-part (a .states .now) (k .loop .at)))
 
 loop-holds : tie.Need-loop-holds Inv-loop μ-loop
 loop-holds c = judging-start _ _ _ _ (c .before .before .pre)
@@ -54,26 +69,27 @@ returns c =
     let k = c .before .before .before .before in
     judging-broken (k .loop .inv) (c .before .before .before .loop-test .taken) (omega (arith, words (c .before)))
 
-add-late-after : tie.Need-add-late-after Inv-loop μ-loop
-add-late-after c =
-    let j = c .before .before .before in
-    omega (arith, judging-two (j .before .loop .inv) (j .loop-test .taken) (j .before .before .before .before .pre .few) (some c))
+mul-next-tick : tie.Need-mul-next-tick Inv-loop μ-loop
+mul-next-tick c = search needs
 
-mul-late-after : tie.Need-mul-late-after Inv-loop μ-loop
-mul-late-after c = search needs
+sub-next-tick : tie.Need-sub-next-tick Inv-loop μ-loop
+sub-next-tick c = search needs
 
-shared-slice-read-late-after : tie.Need-shared-slice-read-late-after Inv-loop μ-loop
-shared-slice-read-late-after c =
-    let e = c .before in
-    let j = e .before .before .before in
-    judging-two (j .before .loop .inv) (j .loop-test .taken) (j .before .before .before .before .pre .few) (some e)
+part-next-tick-start : tie.Need-part-next-tick-start Inv-loop μ-loop
+part-next-tick-start c = search needs
+
+part-next-tick-end : tie.Need-part-next-tick-end Inv-loop μ-loop
+part-next-tick-end c = search needs
+
+next-tick-requires : tie.Need-next-tick-requires Inv-loop μ-loop
+next-tick-requires c κs = search needs
 
 late-after-requires : tie.Need-late-after-requires Inv-loop μ-loop
 late-after-requires c κs = search needs
 
 add-at : tie.Need-add-at Inv-loop μ-loop
 add-at c =
-    let e = c .before .before in
+    let e = c .before .before .before in
     let j = e .before .before .before in
     omega (
       arith,
@@ -95,10 +111,10 @@ loop-less c = search needs
 
 loop-again : tie.Need-loop-again Inv-loop μ-loop
 loop-again c =
-    let e = c .before .before in
+    let e = c .before .before .before in
     let j = e .before .before .before in
     judging-more (j .before .loop .inv) (j .loop-test .taken) (j .before .before .before .before .pre .few) (some e)
-    _ (ap (λ z. j .before .loop .at + z) (words (e .before))) (c .late-after .result) (c .late-after .ensures)
+    _ (ap (λ z. j .before .loop .at + z) (words (e .before))) (c .late-after .result) (late c)
 
 same-length-2 : tie.Need-same-length-2 Inv-loop μ-loop
 same-length-2 c = search needs
@@ -126,9 +142,11 @@ judge-spec =
     extent-requires
     same-length
     returns
-    add-late-after
-    mul-late-after
-    shared-slice-read-late-after
+    mul-next-tick
+    sub-next-tick
+    part-next-tick-start
+    part-next-tick-end
+    next-tick-requires
     late-after-requires
     add-at
     add-i

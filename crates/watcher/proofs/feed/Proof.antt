@@ -1,11 +1,13 @@
 -- `watcher::feed` meets its contract: the refusals in their order, then the steps one after the other. Assumes nothing.
-use mathlib.Core.Path.{_≡_, refl, sym, _∙_}
+use Prim.Native.Nat.{ℕ}
+use mathlib.Core.Path.{_≡_, refl, sym, ap, _∙_}
 use mathlib.Core.Bool.{true}
 use native.Mathlib.Omega.{arith}
+use Rattle.watcher.specs.State.{nextOf}
 use Rattle.watcher.specs.Walk.{formed}
-use Rattle.watcher.specs.Feed.{uneven, short}
+use Rattle.watcher.specs.Feed.{firstFault, uneven, short}
 use Rattle.watcher.specs.Step.{FeedReady}
-use Rattle.watcher.proofs.Judges.{formed-judged, extent-formed, extent-broken}
+use Rattle.watcher.proofs.Judges.{extent-formed, extent-broken}
 use Rattle.watcher.proofs.Feeds.{fed-all, fed-broken, fed-faulty}
 use borrow.Author.Needs.{needs}
 use Rattle.watcher.proofs.feed.Statement.{statement}
@@ -15,12 +17,21 @@ use Rattle.watcher.proofs.feed.Tie as tie
 form : (c : tie.Then3) → formed (c .before .before .before .before .before .before .before .before .before .args .state .now) ≡ true
 form c = extent-formed _ (omega arith)
 
+-- the first fault, by the state's own next tick
+fault : (c : tie.After-first-fault)
+    → let a = c .before .before .before .before .before .before .before .before .before .before .before .before .args in
+    c .first-fault .result ≡ firstFault 0 (nextOf (a .state .now)) (a .ticks .now)
+fault c =
+    let n = c .before in
+    let a = n .before .before .before .before .before .before .before .before .before .before .before .args in
+    c .first-fault .ensures ∙ ap (λ (k : ℕ). firstFault 0 k (a .ticks .now)) (n .next-tick .ensures)
+
 ready : (c : tie.After-enum-told)
-    → let a = c .before .before .before .before .before .before .before .before .before .before .before .before .before .args in
+    → let a = c .before .before .before .before .before .before .before .before .before .before .before .before .before .before .args in
     FeedReady (a .state .now) (a .ticks .now) (a .events .now) (a .answers .now)
 ready c =
     let f = c .before .before in
-    record { form = form (f .before .before); even = omega arith; room = omega arith; sound = sym (f .first-fault .ensures) ∙ c .enum-told .given .1 }
+    record { form = form (f .before .before .before); even = omega arith; room = omega arith; sound = sym (fault f) ∙ c .enum-told .given .1 }
 
 returns : tie.Need-returns
 returns c = (uneven (λ e. omega arith) refl, refl, refl)
@@ -31,8 +42,8 @@ returns-2 c = (short (omega arith) (omega arith) refl, refl, refl)
 extent-requires : tie.Need-extent-requires
 extent-requires c κs = search needs
 
-slice-read-first-fault : tie.Need-slice-read-first-fault
-slice-read-first-fault c = omega (arith, formed-judged _ (form (c .before)) .long)
+next-tick-requires : tie.Need-next-tick-requires
+next-tick-requires c κs = search needs
 
 first-fault-requires : tie.Need-first-fault-requires
 first-fault-requires c κs = search needs
@@ -46,7 +57,7 @@ same-length c = search needs
 returns-3 : tie.Need-returns-3
 returns-3 c =
     let f = c .before .before .before in
-    (fed-faulty _ _ _ _ (omega arith) (omega arith) (form (f .before .before)) _ (sym (f .first-fault .ensures) ∙ c .before .r .given .1), refl, refl)
+    (fed-faulty _ _ _ _ (omega arith) (omega arith) (form (f .before .before .before)) _ (sym (fault f) ∙ c .before .r .given .1), refl, refl)
 
 enum-told : tie.Need-enum-told
 enum-told c = search needs
@@ -78,7 +89,7 @@ feed-spec =
     returns
     returns-2
     extent-requires
-    slice-read-first-fault
+    next-tick-requires
     first-fault-requires
     enum-known-r
     same-length

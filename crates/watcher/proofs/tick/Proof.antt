@@ -4,7 +4,7 @@ use mathlib.Core.Bool.{true}
 use native.Mathlib.Omega.{arith}
 use borrow.Author.Needs.{needs}
 use Rattle.watcher.specs.Walk.{formed}
-use Rattle.watcher.proofs.Judges.{formed-judged, extent-formed, extent-broken}
+use Rattle.watcher.proofs.Judges.{extent-formed, extent-broken}
 use Rattle.watcher.proofs.Calls.{tick-ready, ticked-nothing, ticked-window, refused-form, refused-late, refused-range}
 use Rattle.watcher.proofs.tick.Statement.{statement}
 use Rattle.watcher.proofs.tick.Tie as tie
@@ -22,20 +22,20 @@ returns-2 : tie.Need-returns-2
 returns-2 c = (refused-form _ _ (omega arith) (extent-broken _ (omega arith)), refl)
 
 -- the state is in form, as computed
-form : (c : tie.After-slice-known2) → formed (c .before .before .before .before .before .before .args .state .now) ≡ true
+form : (c : tie.Else2) → formed (c .before .before .before .before .before .args .state .now) ≡ true
 form c = extent-formed _ (omega arith)
 
-slice-read-if3 : tie.Need-slice-read-if3
-slice-read-if3 c = omega (arith, formed-judged _ (form c) .long)
+next-tick-requires : tie.Need-next-tick-requires
+next-tick-requires c κs = search needs
 
 same-length-2 : tie.Need-same-length-2
 same-length-2 c = search needs
 
 returns-3 : tie.Need-returns-3
-returns-3 c = (refused-late _ _ (omega arith) (form (c .before)) (omega arith), refl)
+returns-3 c = (refused-late _ _ (omega arith) (form (c .before .before .before)) (omega (arith, c .before .next-tick .ensures)), refl)
 
 step-requires : tie.Need-step-requires
-step-requires c κs = tick-ready (omega arith) (form (c .before .before)) (omega arith)
+step-requires c κs = tick-ready (omega arith) (form (c .before .before .before .before)) (omega (arith, c .before .before .next-tick .ensures))
 
 same-length-3 : tie.Need-same-length-3
 same-length-3 c = search needs
@@ -43,8 +43,8 @@ same-length-3 c = search needs
 returns-4 : tie.Need-returns-4
 returns-4 c = ticked-nothing (c .before .before .before .step .ensures) (c .if4 .taken)
 
-sub-t12 : tie.Need-sub-t12
-sub-t12 c = search needs
+sub-t11 : tie.Need-sub-t11
+sub-t11 c = search needs
 
 same-length-4 : tie.Need-same-length-4
 same-length-4 c = search needs
@@ -60,12 +60,12 @@ tick-spec =
     extent-requires
     same-length
     returns-2
-    slice-read-if3
+    next-tick-requires
     same-length-2
     returns-3
     step-requires
     same-length-3
     returns-4
-    sub-t12
+    sub-t11
     same-length-4
     returns-5)
