@@ -1,4 +1,5 @@
--- What is claimed of a whole input: demand 3, on what is written; and that the promises leave no choice. Assumes nothing: these are definitions.
+-- What is claimed of a whole input: that the output is what the rules ask for (docs/RULES.md, "The watch program"); and that the promises leave no
+-- choice. Assumes nothing: these are definitions.
 use Prim.Native.Nat.{ℕ, suc, zero, _≤_}
 use mathlib.Core.Path.{_≡_}
 use mathlib.Core.List.{List, [], _∷_, _++_}
@@ -51,8 +52,8 @@ pub record Agreed (p : List ℕ) (ls : List (List ℕ)) (bytes : List ℕ) (run 
   pub windows : List Window
   pub reports : Reports pattern [] ticks windows
   pub written : bytes ≡ windowLines windows
-  pub counted : run .windows ≡ length windows
-  pub summed : run .ticks ≡ span windows
+  pub counted : run .tally .windows ≡ length windows
+  pub summed : run .tally .ticks ≡ span windows
 
 -- as long as no line is refused, what is written is what the rules ask for
 abbrev pub LinesAgree : Type 0

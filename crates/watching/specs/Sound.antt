@@ -1,4 +1,4 @@
--- What is claimed of inputs that document 01 accepts, and of inputs of which only the beginning was taken. Assumes nothing: these are definitions.
+-- What is claimed of inputs that the rules accept (docs/RULES.md, "The watch program"), and of inputs of which only the beginning was taken. Assumes nothing: these are definitions.
 use Prim.Native.Nat.{ℕ, _≤_}
 use mathlib.Core.Path.{_≡_}
 use mathlib.Core.List.{List, [], _∷_, _++_}

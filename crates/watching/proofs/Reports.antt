@@ -1,4 +1,4 @@
--- Answers told many at once: a window is added to a tally that is far from full, and answers are told one after the other. Assumes nothing.
+-- Answers reported many at once: a window is added to a tally that is far from full, and answers are reported one after the other. Assumes nothing.
 use Prim.Native.Nat.{ℕ, suc, _+_, _-_, _*_, _^_, _<_, _≤_}
 use mathlib.Core.Path.{_≡_, refl, subst}
 use mathlib.Core.List.{List, [], _∷_, _++_, append-assoc, append-nil}
@@ -17,13 +17,14 @@ use Rattle.line.specs.Lines.{mostWritten}
 use Rattle.line.proofs.Claims.{at-most-written}
 use Rattle.watching.specs.declared.Run.{Run}
 use Rattle.watching.specs.declared.Taken.{Taken}
-use Rattle.watching.specs.Runs.{tallyOf, wentOn}
-use Rattle.watching.specs.Answer.{Windowed, added, full, IsWindowed}
-use Rattle.watching.specs.Going.{WritesOn}
-use Rattle.watching.specs.Batch.{Told, nothing, window, Tells, none, more, Holds, TellReady, IsTold, TellAllReady, IsAllTold}
+use Rattle.watching.specs.declared.LineAnswer.the-variants.{Window}
+use Rattle.watching.specs.Runs.{nextRun}
+use Rattle.watching.specs.Answer.{Acted, silent, added, full, IsActed}
+use Rattle.watching.specs.Progress.{WritesOn}
+use Rattle.watching.specs.Batch.{answerAt, AllReported, none, more, Holds, ReportReady, IsReported, ReportAllReady, IsAllReported}
 use Rattle.watching.proofs.Writings.{nothing-written}
 use Rattle.watching.proofs.Appending.{lent-rest}
-use Rattle.watching.proofs.Goings.{writes-on, writes-whole, writes-length, writes-then}
+use Rattle.watching.proofs.Progress.{writes-on, writes-whole, writes-length, writes-then}
 
 -- ---- one answer
 
@@ -35,49 +36,51 @@ added-fits tally start t h r w k =
     simp (le-ltb t start h, lt-leb ticks t r, lt-leb (2 ^ 64) (tally .windows + 1) w, lt-leb (2 ^ 64) (tally .ticks + (t - start + 1)) k)
 
 -- what a window does to a run whose tally has room for it
-record Grows (run : Run) (t a : ℕ) (run′ : Run) (bytes : List ℕ) : Type 0 where
-  told : Told run t a run′ bytes
+record Grows (run run′ : Run) (bytes : List ℕ) : Type 0 where
+  phase : run′ .phase ≡ 1
   short : length bytes ≤ mostWritten
-  windows : run′ .windows ≤ run .windows + 1
-  ticks : run′ .ticks ≤ run .ticks + 2 ^ 32
+  windows : run′ .tally .windows ≤ run .tally .windows + 1
+  ticks : run′ .tally .ticks ≤ run .tally .ticks + 2 ^ 32
 
 module _ (run : Run) (start t : ℕ) (h : start ≤ t) (r : t < ticks) (f : Holds run 1) where
-  fits : addedTo (tallyOf run) start t ≡ Added (counted (tallyOf run) start t)
-  fits = added-fits (tallyOf run) start t h r (f .windows) (omega (arith, f .ticks))
+  fits : addedTo (run .tally) start t ≡ Added (counted (run .tally) start t)
+  fits = added-fits (run .tally) start t h r (f .windows) (omega (arith, f .ticks))
 
-  windowed-grows : {run′ : Run} {bytes : List ℕ} → Windowed run start t run′ bytes → Grows run t (suc start) run′ bytes
-  windowed-grows (added {tally} e) =
-      let counts : addedTo (tallyOf run) start t ≡ Added (counted (tallyOf run) start t) = fits in
-      let same : tally ≡ counted (tallyOf run) start t = cc in
+  window-grows : {run′ : Run} {bytes : List ℕ} → Acted run (Window start t) run′ bytes → Grows run run′ bytes
+  window-grows (added {tally = tally} e) =
+      let counts : addedTo (run .tally) start t ≡ Added (counted (run .tally) start t) = fits in
+      let same : tally ≡ counted (run .tally) start t = cc in
       record {
-        told = window e;
+        phase = refl;
         short = at-most-written start t (omega arith) (omega arith) .0;
         windows = rw same (omega arith);
         ticks = rw same (omega arith);
       }
-  windowed-grows (full {r} e) =
-      let counts : addedTo (tallyOf run) start t ≡ Added (counted (tallyOf run) start t) = fits in
+  window-grows (full {r = r} e) =
+      let counts : addedTo (run .tally) start t ≡ Added (counted (run .tally) start t) = fits in
       impossible cc
 
-pub told-nothing : (run run′ : Run) (t a : ℕ) (d : List ℕ) → a ≡ 0 → run′ ≡ wentOn run (tallyOf run)
-    → IsTold run t a d d (record { run = run′; written = 0 })
-told-nothing run run′ t a d z e = record {
+pub reported-nothing : (run run′ : Run) (t a : ℕ) (d : List ℕ) → a ≡ 0 → run′ ≡ nextRun run (run .tally)
+    → IsReported run t a d d (record { run = run′; written = 0 })
+reported-nothing run run′ t a d z e = record {
   bytes = [];
-  told = rw (z, e) nothing;
+  acted = rw (z, e) silent;
+  phase = rw e refl;
   short = omega arith;
   written = nothing-written d;
   windows = rw e (omega arith);
   ticks = rw e (omega arith);
 }
 
-pub told-window : {run : Run} {t a : ℕ} {d d′ : List ℕ} {taken : Taken} → TellReady run t a d → (a ≡ 0 → ⊥) → IsWindowed run (a - 1) t d d′ taken
-    → IsTold run t a d d′ taken
-told-window {run} {t} {a} {d} {d′} {taken} r n i =
+pub reported-window : {run : Run} {t a : ℕ} {d d′ : List ℕ} {taken : Taken} → ReportReady run t a d → (a ≡ 0 → ⊥)
+    → IsActed run (Window (a - 1) t) d d′ taken → IsReported run t a d d′ taken
+reported-window {run} {t} {a} {d} {d′} {taken} r n i =
     let same : suc (a - 1) ≡ a = omega arith in
-    let g = windowed-grows run (a - 1) t (omega (arith, r .fair .within)) (r .fair .range) (r .holds) (i .line) in
+    let g = window-grows run (a - 1) t (omega (arith, r .fair .within)) (r .fair .range) (r .holds) (i .acted) in
     record {
       bytes = i .bytes;
-      told = subst (λ (k : ℕ). Told run t k (taken .run) (i .bytes)) same (g .told);
+      acted = subst (λ (k : ℕ). Acted run (answerAt t k) (taken .run) (i .bytes)) same (i .acted);
+      phase = g .phase;
       short = g .short;
       written = i .written;
       windows = g .windows;
@@ -86,18 +89,18 @@ told-window {run} {t} {a} {d} {d′} {taken} r n i =
 
 -- ---- one after the other
 
--- i answers are told: what is told after them follows
-pub record Telling (run : Run) (ts answers d d′ : List ℕ) (later : Run) (written i : ℕ) : Type 0 where
+-- i answers are reported: what is reported from there on comes after them
+pub record Reporting (run : Run) (ts answers d d′ : List ℕ) (later : Run) (written i : ℕ) : Type 0 where
   pub inside : i ≤ length ts
   pub bytes : List ℕ
-  pub leads : {run″ : Run} {l rest : List ℕ} → Tells later (drop i ts) l run″ rest → Tells run ts (take i answers ++ l) run″ (bytes ++ rest)
+  pub leads : {run″ : Run} {l rest : List ℕ} → AllReported later (drop i ts) l run″ rest → AllReported run ts (take i answers ++ l) run″ (bytes ++ rest)
   pub writes : WritesOn bytes d d′ 0 written
   pub short : written ≤ mostWritten * i
   pub holds : Holds later (length ts - i)
 
-module _ {run : Run} {ts answers d : List ℕ} (r : TellAllReady run ts answers d) where
-  pub telling-start : Telling run ts answers d d run 0 0
-  telling-start = record {
+module _ {run : Run} {ts answers d : List ℕ} (r : ReportAllReady run ts answers d) where
+  pub reporting-start : Reporting run ts answers d d run 0 0
+  reporting-start = record {
     inside = omega arith;
     bytes = [];
     leads = λ k. k;
@@ -106,35 +109,35 @@ module _ {run : Run} {ts answers d : List ℕ} (r : TellAllReady run ts answers 
     holds = record { windows = omega (arith, r .holds .windows); ticks = omega (arith, r .holds .ticks) };
   }
 
-  module _ {d′ : List ℕ} {later : Run} {written i : ℕ} (x : Telling run ts answers d d′ later written i) where
-    pub telling-end : length ts ≤ i → IsAllTold run ts answers d d′ (record { run = later; written = written })
-    telling-end h =
+  module _ {d′ : List ℕ} {later : Run} {written i : ℕ} (x : Reporting run ts answers d d′ later written i) where
+    pub reporting-end : length ts ≤ i → IsAllReported run ts answers d d′ (record { run = later; written = written })
+    reporting-end h =
         let all : i ≡ length ts = omega (arith, x .inside) in
-        let k : Tells later (drop i ts) [] later [] = rw (drop-of-length-le ts h) none in
+        let k : AllReported later (drop i ts) [] later [] = rw (drop-of-length-le ts h) none in
         record {
           bytes = x .bytes;
-          tells = rw (append-nil (take i answers), append-nil (x .bytes), all) at (x .leads k);
+          reports = rw (append-nil (take i answers), append-nil (x .bytes), all) at (x .leads k);
           written = writes-whole (x .writes);
         }
 
     module _ (h : i < length ts) where
-      pub telling-ready : TellReady later (getD ts i 0) (getD answers i 0) (midOf written (length d′ - written) d′)
-      telling-ready = record {
+      pub reporting-ready : ReportReady later (getD ts i 0) (getD answers i 0) (midOf written (length d′ - written) d′)
+      reporting-ready = record {
         fair = r .fair i h;
         holds = record { windows = omega (arith, x .holds .windows); ticks = omega (arith, x .holds .ticks) };
         room = rw (lent-rest written d′) (omega (arith, length-drop written d′, writes-length (x .writes), r .room, x .short));
       }
 
-      pub telling-more : {e : List ℕ} {told : Taken} → IsTold later (getD ts i 0) (getD answers i 0) (midOf written (length d′ - written) d′) e told
-          → Telling run ts answers d (putMid written (length d′ - written) d′ e) (told .run) (written + told .written) (i + 1)
-      telling-more {e} {told} t =
+      pub reporting-more : {e : List ℕ} {taken : Taken} → IsReported later (getD ts i 0) (getD answers i 0) (midOf written (length d′ - written) d′) e taken
+          → Reporting run ts answers d (putMid written (length d′ - written) d′ e) (taken .run) (written + taken .written) (i + 1)
+      reporting-more {e} {taken} t =
           let k : i < length answers = omega (arith, r .enough) in
           record {
             inside = omega arith;
             bytes = x .bytes ++ t .bytes;
             leads = λ {run″} {l} {rest} b.
                 rw (add-one i, take-suc answers i 0 k, append-assoc (take i answers) (getD answers i 0 ∷ []) l, append-assoc (x .bytes) (t .bytes) rest)
-                (x .leads (rw (drop-cons ts i 0 h, ← add-one i) (more (getD ts i 0) (getD answers i 0) (t .told) b)));
+                (x .leads (rw (drop-cons ts i 0 h, ← add-one i) (more (getD ts i 0) (getD answers i 0) (t .acted) (t .phase) b)));
             writes = writes-then (x .writes) (writes-on (omega (arith, x .writes .fits, writes-length (x .writes))) (t .written));
             short = omega (arith, x .short, t .short, t .written .counts);
             holds = record {
