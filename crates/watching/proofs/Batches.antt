@@ -9,7 +9,7 @@ use borrow.Rule.Slice.PartMut.{midOf, putMid}
 use Rattle.detector.proofs.Form.{answer-le}
 use Rattle.line.specs.Lines.{mostWritten}
 use Rattle.line.specs.Answer.{IsTick}
-use Rattle.line.proofs.Claims.{at-most-written}
+use Rattle.line.proofs.Theorem.{at-most-written}
 use Rattle.watcher.specs.Answer.{IsTicked}
 use Rattle.watcher.specs.Feed.{paired, AllTicked, IsFed}
 use Rattle.watcher.specs.Feed.AllTicked.{none as all-none, more as all-more}

@@ -10,7 +10,7 @@ use Rattle.watching.specs.Whole.{linesFrom, Takes, Prints}
 use Rattle.watching.specs.Whole.Takes.{more as next-line}
 use Rattle.watching.specs.Chunk.{mostHeld, hold, TakesBytes}
 use Rattle.watching.specs.Chunk.TakesBytes.{all, full, byte, line}
-use Rattle.watching.specs.Sound.{OutputBegins}
+use Rattle.watching.specs.Claim.{OutputBegins}
 use Rattle.watching.proofs.Held.{held-taken, hold-held}
 use Rattle.watching.proofs.Unique.{one-line}
 use Rattle.watching.proofs.InPieces.{Watches, Still, lines-byte, lines-feed, watches-still}

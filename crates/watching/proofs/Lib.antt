@@ -17,3 +17,4 @@ pub mod Given
 pub mod UniqueChunk
 pub mod Sounds
 pub mod Begins
+pub mod Theorem

@@ -14,7 +14,7 @@ use Rattle.tally.specs.declared.Tally.{Tally}
 use Rattle.tally.specs.declared.Adding.the-variants.{Added}
 use Rattle.tally.specs.Tallied.{addedTo, more as counted}
 use Rattle.line.specs.Lines.{mostWritten}
-use Rattle.line.proofs.Claims.{at-most-written}
+use Rattle.line.proofs.Theorem.{at-most-written}
 use Rattle.watching.specs.declared.Run.{Run}
 use Rattle.watching.specs.declared.Taken.{Taken}
 use Rattle.watching.specs.declared.LineAnswer.the-variants.{Window}

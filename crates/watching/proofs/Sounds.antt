@@ -15,7 +15,7 @@ use Rattle.refusal.specs.declared.Refusal.{Refusal}
 use Rattle.body.specs.Claim.{BodyOf}
 use Rattle.body.proofs.Bodies.{length-encode}
 use Rattle.text.specs.declared.Reading.the-variants as Reads
-use Rattle.text.proofs.Claims.{one-pattern, accepted-exactly}
+use Rattle.text.proofs.Theorem.{one-pattern, accepted-exactly}
 use Rattle.watcher.specs.declared.Opening.the-variants as Opens
 use Rattle.watcher.specs.declared.Ticking.the-variants as Ticks
 use Rattle.watcher.specs.State.{stateOf, roomOf}
@@ -26,7 +26,7 @@ use Rattle.tally.specs.declared.Adding.the-variants as Adds
 use Rattle.tally.specs.Tallied.{addedTo, more as counted}
 use Rattle.line.specs.declared.LineRead.the-variants as Lines
 use Rattle.line.specs.Answer.{IsTick}
-use Rattle.line.proofs.Claims.{one-tick, one-reading}
+use Rattle.line.proofs.Theorem.{one-tick, one-reading}
 use Rattle.watching.specs.declared.Run.{Run}
 use Rattle.watching.specs.Runs.{nextRun}
 use Rattle.watching.specs.declared.LineAnswer.the-variants.{Refused}
@@ -37,9 +37,8 @@ use Rattle.watching.specs.Answer.Acted.{silent, added, full, refused}
 use Rattle.watching.specs.Answer.LineTaken.{first, further, after}
 use Rattle.watching.specs.Whole.{Takes}
 use Rattle.watching.specs.Whole.Takes.{none, more}
-use Rattle.watching.specs.Claim.{AreTicks}
+use Rattle.watching.specs.Claim.{AreTicks, Sound, SoundAccepted, SoundPrinted}
 use Rattle.watching.specs.Claim.AreTicks.{none as no-lines, tick as line}
-use Rattle.watching.specs.Sound.{Sound, SoundAccepted, SoundPrinted}
 use Rattle.watching.proofs.Reports.{added-fits}
 use Rattle.watching.proofs.Batches.{ticked-fair}
 use Rattle.watching.proofs.Whole.{read-body, output-agrees}

@@ -8,7 +8,7 @@ use Rattle.rules.proofs.Impossible.{impossible}
 use Rattle.text.specs.declared.Reading.{Reading}
 use Rattle.text.specs.declared.Reading.the-variants as Reads
 use Rattle.text.specs.Answer.{ReadingOf}
-use Rattle.text.proofs.Decided as Texts
+use Rattle.text.proofs.Theorem as Texts
 use Rattle.watcher.specs.declared.Opening.{Opening}
 use Rattle.watcher.specs.declared.Opening.the-variants as Opens
 use Rattle.watcher.specs.declared.Ticking.{Ticking}
@@ -18,7 +18,7 @@ use Rattle.watcher.proofs.Theorem.{one-opening, one-tick}
 use Rattle.line.specs.declared.LineRead.{LineRead}
 use Rattle.line.specs.declared.LineRead.the-variants as Lines
 use Rattle.line.specs.Answer.{LineReadOf, IsWritten}
-use Rattle.line.proofs.Claims as Lined
+use Rattle.line.proofs.Theorem as Lined
 use Rattle.watching.specs.declared.Run.{Run}
 use Rattle.watching.specs.declared.LineAnswer.{LineAnswer}
 use Rattle.watching.specs.declared.LineAnswer.the-variants.{Nothing, Window, Refused}

@@ -9,7 +9,7 @@ use Rattle.line.specs.declared.LineWritten.the-variants.{Written, Refused}
 use Rattle.line.specs.Lines.{mostWritten, mostTally, windowLine, tallyLine, refusedLine}
 use Rattle.line.specs.Answer.{LineWrittenOf, IsWritten}
 use Rattle.line.specs.Answer.RefusedWriting.{room}
-use Rattle.line.proofs.Claims.{at-most-written}
+use Rattle.line.proofs.Theorem.{at-most-written}
 use Rattle.watching.specs.Answer.{bytesIn}
 
 -- nothing is written

@@ -5,4 +5,3 @@ pub mod Chunk
 pub mod Progress
 pub mod Batch
 pub mod Claim
-pub mod Sound
