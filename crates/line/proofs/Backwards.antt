@@ -5,7 +5,7 @@ use native.Mathlib.Omega.{arith}
 use mathlib.Core.List.{List, [], _∷_, _++_, append-assoc, append-nil}
 use lib.ListN.{length, getD, take, drop, set, length-set, length-append}
 use lib.Seq.{set-split, drop-at, drop-cons, drop-length, length-take-le}
-use Rattle.line.specs.Lines.{mostDigits, mostWritten, decimal}
+use Rattle.line.specs.Lines.{mostDigits, mostTally, decimal}
 use Rattle.line.specs.Told.{Backward, Before}
 use Rattle.line.proofs.Decimals.{decimal-one, decimal-last, decimal-some, decimal-fits}
 
@@ -18,7 +18,7 @@ byte-back d at v h = record {
     next : suc (at - 1) ≡ at
     next = omega arith
 
-    here : length d ≡ mostWritten → drop (at - 1) (set d (at - 1) v) ≡ v ∷ drop at d
+    here : length d ≡ mostTally → drop (at - 1) (set d (at - 1) v) ≡ v ∷ drop at d
     here len =
         ap (drop (at - 1)) (set-split d (at - 1) v (omega arith))
         ∙ drop-at (take (at - 1) d) (v ∷ drop (suc (at - 1)) d) (at - 1) (length-take-le (at - 1) d (omega arith))
@@ -45,7 +45,7 @@ pub record WordLeft (word d₀ d : List ℕ) (end at left : ℕ) : Type 0 where
   pub text : Backward d₀ d end at (drop left word)
   pub inside : left ≤ length word
   pub room : left ≤ at
-  pub upto : at ≤ mostWritten
+  pub upto : at ≤ mostTally
 
 pub word-start : (word d : List ℕ) (end : ℕ) → Before (length word) end → WordLeft word d d end end (length word)
 word-start word d end h = record {
@@ -81,7 +81,7 @@ pub record NumberLeft (n : ℕ) (d₀ d : List ℕ) (end at left : ℕ) : Type 0
   pub text : Backward d₀ d end at bytes
   pub same : decimal n ≡ decimal left ++ bytes
   pub room : length (decimal left) ≤ at
-  pub inside : at ≤ mostWritten
+  pub inside : at ≤ mostTally
 
 pub number-start : (n : ℕ) (d : List ℕ) (end : ℕ) → n < 2 ^ 64 → Before mostDigits end → NumberLeft n d d end end n
 number-start n d end small h = record {

@@ -8,4 +8,4 @@ pub mod Readings
 pub mod Backwards
 pub mod Writings
 -- the theorems
-pub mod Claims
+pub mod Theorem

@@ -6,7 +6,7 @@ use mathlib.Core.List.{List, _++_}
 use lib.ListN.{length, drop}
 use Rattle.rules.specs.Limits.{letters, ticks}
 use Rattle.refusal.specs.declared.Refusal.the-variants.{Line, Range, Room}
-use Rattle.line.specs.Lines.{mostLine, mostWritten, tickLine, windowLine, tallyLine, refusedLine}
+use Rattle.line.specs.Lines.{mostLine, mostWritten, mostTally, tickLine, windowLine, tallyLine, refusedLine}
 use Rattle.line.specs.Answer.{LineOf, IsRange, LineReadOf, LineWrittenOf}
 use Rattle.line.specs.declared.LineRead.{LineRead}
 use Rattle.line.specs.declared.LineRead.the-variants.{Tick, Refused as Unread}
@@ -60,8 +60,8 @@ WrittenLacks =
     → length d < length bytes
     → (r ≡ Unwritten (Room (length bytes))) × (d′ ≡ d)
 
--- a line with numbers of 64 bits never has more than 60 bytes
+-- a line with numbers of 64 bits never has more bytes than its bound
 abbrev pub AtMostWritten : Type 0
 AtMostWritten =
     (a b : ℕ) → a < 2 ^ 64 → b < 2 ^ 64
-    → (length (windowLine a b) ≤ mostWritten) × (length (tallyLine a b) ≤ mostWritten) × (length (refusedLine a b) ≤ mostWritten)
+    → (length (windowLine a b) ≤ mostWritten) × (length (tallyLine a b) ≤ mostTally) × (length (refusedLine a b) ≤ mostWritten)

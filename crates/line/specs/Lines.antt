@@ -15,9 +15,13 @@ mostLine = 1024
 abbrev pub mostDigits : ℕ
 mostDigits = 20
 
--- the bytes that a line with two such numbers can have
+-- the bytes that the line of a window or of a refusal can have
 abbrev pub mostWritten : ℕ
 mostWritten = 60
+
+-- the bytes that the tally's line can have; no line is longer
+abbrev pub mostTally : ℕ
+mostTally = 60
 
 -- a number of any size in decimal, with no leading zero except for 0 itself; n has at most n + 1 digits
 unfoldable pub decimal : ℕ → List ℕ

@@ -4,7 +4,7 @@ use mathlib.Core.Path.{_≡_}
 use mathlib.Core.List.{List, _++_}
 use lib.ListN.{length, drop}
 use Rattle.rules.specs.Limits.{ticks}
-use Rattle.line.specs.Lines.{mostWritten}
+use Rattle.line.specs.Lines.{mostTally}
 use Rattle.line.specs.Scan.{frontOf}
 use Rattle.line.specs.Scan.Front.{none, number}
 use Rattle.line.specs.declared.reader.Decimal.{Decimal}
@@ -24,8 +24,8 @@ NumberOf s Bad = frontOf s ≡ none
 -- bytes are written backwards from `end` to `at`: from there on d′ holds them, and then what d held from `end` on
 pub record Backward (d d′ : List ℕ) (end at : ℕ) (bytes : List ℕ) : Type 0 where
   pub room : at + length bytes ≡ end
-  pub written : length d ≡ mostWritten → (length d′ ≡ mostWritten) × (drop at d′ ≡ bytes ++ drop end d)
+  pub written : length d ≡ mostTally → (length d′ ≡ mostTally) × (drop at d′ ≡ bytes ++ drop end d)
 
 -- this many bytes fit before `end`
 abbrev pub Before : ℕ → ℕ → Type 0
-Before bytes end = (bytes ≤ end) × (end ≤ mostWritten)
+Before bytes end = (bytes ≤ end) × (end ≤ mostTally)

@@ -11,6 +11,12 @@ ghost use Rattle.line.specs.Answer.{LineReadOf, LineWrittenOf};
 // The bytes that a tick's line may have.
 const MOST_LINE: usize = 1024;
 
+// The bytes that the line of a window or of a refusal can have.
+pub const MOST_WRITTEN: usize = 60;
+
+// The bytes that the tally's line can have; no line is longer.
+pub const MOST_TALLY: usize = 60;
+
 // What reading a line answers: the tick and its word of events, or why the line is refused.
 pub enum LineRead {
     Tick(u64, u32),

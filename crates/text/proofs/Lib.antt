@@ -17,4 +17,4 @@ pub mod Lengths
 pub mod Printings
 -- the theorems
 pub mod Decided
-pub mod Claims
+pub mod Theorem

@@ -4,10 +4,7 @@ use mathlib.Core.Path.{_≡_}
 use mathlib.Core.List.{List, _++_}
 use native.Mathlib.Omega.{arith}
 use lib.ListN.{length, take}
-use Rattle.watching.proofs.Rooms.{room-enough}
-use Rattle.watching.proofs.Given.{input-prints}
-use Rattle.watching.proofs.Sounds.{sound-printed}
-use Rattle.watching.proofs.Begins.{output-begins}
+use Rattle.watching.proofs.Theorem.{room-enough, input-prints, sound-printed, output-begins}
 use Rattle.watch.specs.declared.Progress.{Progress}
 use Rattle.watch.specs.declared.Wrote.{Wrote}
 use Rattle.watch.specs.Watch.{stateWords, InputTaken, InputEnded, Ran}

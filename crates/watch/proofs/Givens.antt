@@ -18,8 +18,8 @@ use lib.Seq.{take-at, take-add, take-all}
 use Rattle.watching.specs.declared.Run.{Run}
 use Rattle.watching.specs.declared.Chunked.{Chunked}
 use Rattle.watching.specs.Runs.{fresh}
-use Rattle.watching.specs.Chunk.{mostHeld, Bites, IsChunked, Given}
-use Rattle.watching.specs.Chunk.Bites.{all, full, byte, line}
+use Rattle.watching.specs.Chunk.{mostHeld, TakesBytes, IsChunked, Given}
+use Rattle.watching.specs.Chunk.TakesBytes.{all, full, byte, line}
 use Rattle.watching.specs.Chunk.Given.{none, more}
 use Rattle.watching.proofs.Chunkings.{chunk-inside}
 use Rattle.watch.specs.declared.Progress.{Progress}
@@ -27,18 +27,18 @@ use Rattle.watch.specs.Watch.{ChunkTaken, readFailed, ReadTaken, InputTa
 use Rattle.watch.specs.Watch.ReadTaken.{some, failed}
 
 -- bytes of which some are left are taken as those before them are taken alone
-bites-front : {room : ℕ} {run run′ : Run} {h h′ s s′ input bytes left : List ℕ} → Bites room run h s input run′ h′ s′ bytes left
-    → (front : List ℕ) × (input ≡ front ++ left) × Bites room run h s front run′ h′ s′ bytes []
-bites-front all = ([], refl, all)
-bites-front (full p) = ([], refl, all)
-bites-front (byte {c = c} p n b) = let r = bites-front b in (c ∷ r .0, ap (λ (l : List ℕ). c ∷ l) (r .1), byte p n (r .2))
-bites-front (line p t b) = let r = bites-front b in (10 ∷ r .0, ap (λ (l : List ℕ). 10 ∷ l) (r .1), line p t (r .2))
+bytes-front : {room : ℕ} {run run′ : Run} {h h′ s s′ input bytes left : List ℕ} → TakesBytes room run h s input run′ h′ s′ bytes left
+    → (front : List ℕ) × (input ≡ front ++ left) × TakesBytes room run h s front run′ h′ s′ bytes []
+bytes-front all = ([], refl, all)
+bytes-front (full p) = ([], refl, all)
+bytes-front (byte {c = c} p n b) = let r = bytes-front b in (c ∷ r .0, ap (λ (l : List ℕ). c ∷ l) (r .1), byte p n (r .2))
+bytes-front (line p t b) = let r = bytes-front b in (10 ∷ r .0, ap (λ (l : List ℕ). 10 ∷ l) (r .1), line p t (r .2))
 
 module _ {run : Run} {held : ℕ} {chunk p p′ s s′ d d′ : List ℕ} {r : Chunked} (x : IsChunked run held chunk p p′ s s′ d d′ r) where
   -- what was used of a chunk is a chunk of which all is used
   used-alone : IsChunked run held (take (r .used) chunk) p p′ s s′ d d′ r
   used-alone =
-      let q = bites-front (x .taken) in
+      let q = bytes-front (x .taken) in
       let n : length (q .0) ≡ r .used = omega (arith, x .used, length-append (q .0) (x .left), ap length (q .1)) in
       let e : take (r .used) chunk ≡ q .0 = ap (take (r .used)) (q .1) ∙ take-at (q .0) (x .left) (r .used) n in
       record {

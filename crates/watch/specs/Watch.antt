@@ -8,7 +8,7 @@ use Rattle.watching.specs.declared.Chunking.the-variants.{Taken}
 use Rattle.watching.specs.declared.Finishing.the-variants.{Finished}
 use Rattle.watching.specs.Runs.{fresh}
 use Rattle.watching.specs.Whole.{linesOf, Prints}
-use Rattle.watching.specs.Sound.{Sound, Ruled}
+use Rattle.watching.specs.Claim.{Sound, Ruled}
 use Rattle.watching.specs.Chunk.{mostHeld, mostFinish, ChunkAnswers, FinishAnswers, Given}
 use Rattle.watch.specs.declared.Progress.{Progress}
 use Rattle.watch.specs.declared.Wrote.{Wrote}
@@ -23,22 +23,22 @@ readFailed = 1
 abbrev pub writeFailed : ℕ
 writeFailed = 2
 
--- the words lent for the state of any pattern
+-- the words that there are for the state
 abbrev pub stateWords : ℕ
 stateWords = 4096
 
--- what is lent is enough: for the state of any pattern, for the bytes held of a line, and for the output of finishing
+-- there is room for the state of any pattern, for the bytes held of a line, and for the output of finishing
 pub record Enough (state part out : List ℕ) : Type 0 where
   pub words : stateWords ≤ length state
   pub held : mostHeld ≤ length part
   pub room : mostFinish ≤ length out
 
--- some of the input was taken, and what was written for it, so many bytes, was handed to the writer
+-- some of the input was taken, and what was written for it was handed to the writer
 abbrev pub SomeTaken : Progress → List ℕ → List ℕ → List ℕ → List ℕ → List ℕ → List ℕ → List ℕ → Progress → Type 0
 SomeTaken p input part part′ state state′ out out′ r =
     ChunkAnswers (p .taken .run) (p .taken .held) input part part′ state state′ out out′ (Taken (r .taken))
 
--- of a chunk so many bytes were taken, all unless something failed, and the bytes were handed to the writer for them
+-- the first bytes of a chunk were taken, all unless something failed, and the bytes for them were handed to the writer
 pub record ChunkTaken (p : Progress) (chunk part part′ state state′ : List ℕ) (r : Progress) : Type 0 where
   pub used : ℕ
   pub bytes : List ℕ
@@ -58,7 +58,7 @@ pub record InputTaken (part part′ state state′ : List ℕ) (r : Progress) : 
   pub bytes : List ℕ
   pub given : Given fresh 0 part state input (r .taken .run) (r .taken .held) part′ state′ bytes
 
--- the input was ended, and so many bytes were handed to the writer
+-- the input was ended, and what was written then was handed to the writer
 pub record InputEnded (p : Progress) (part state state′ out out′ : List ℕ) (w : Wrote) : Type 0 where
   pub answers : FinishAnswers (p .taken .run) (p .taken .held) part state state′ out out′ (Finished (w .bytes))
 
@@ -67,7 +67,7 @@ pub record Printed (state input output : List ℕ) : Type 0 where
   pub prints : Prints state input output
   pub sound : (p : List ℕ) (ls : List (List ℕ)) (x : Sound p ls) → linesOf input ≡ p ∷ ls → Ruled p ls x output
 
--- the output of the beginning of an input: however the input goes on, it stands first in what that prints
+-- the output of the beginning of an input: however the input continues, it stands first in what that prints
 pub record Begun (state input output : List ℕ) : Type 0 where
   pub begins : (later right : List ℕ) → Prints state (input ++ later) right → (rest : List ℕ) × (right ≡ output ++ rest)
 

@@ -141,7 +141,7 @@ fn take_chunk(
     p
 }
 
-// Takes as much of the input as there is room for its output, and writes that. Nothing is refused, since the part lent is long enough.
+// Takes as much of the input as there is room for its output, and writes that. Nothing is refused, since `part` is long enough.
 fn take_some(
     p: Progress,
     input: &[u8],
@@ -173,7 +173,7 @@ fn take_some(
     }
 }
 
-// Ends the input, and writes what is left to be said. Nothing is refused, since the room lent is enough.
+// Ends the input, and writes what is left to report. Nothing is refused, since there is enough room.
 fn finish(p: Progress, part: &[u8], state: &mut [u64], out: &mut [u8]) -> Wrote
     requires { ⌜ (p .fault ≡ 0) × Enough (now state) (now part) (now out) ⌝ }
     ensures { λ r. ⌜ InputEnded p (now (part .entry)) (now (state .entry)) (now (state .exit)) (now (out .entry)) (now (out .exit)) r ⌝ }

@@ -8,7 +8,7 @@ use lib.ListN.{length, take, drop, length-take, length-drop, length-append, drop
 use lib.Seq.{paste, length-take-le, take-all, take-length, take-at, drop-drop, take-append-add}
 use borrow.Rule.Slice.PartMut.{midOf, putMid}
 use Rattle.watching.specs.Chunk.{mostHeld}
-use Rattle.watching.specs.Going.{Appended}
+use Rattle.watching.specs.Progress.{Appended}
 
 -- the first k of a list are its first n, where that is the lesser of k and its length
 pub take-least : (l : List ℕ) (k n : ℕ) → n ≡ min (length l) k → take k l ≡ take n l
@@ -18,7 +18,7 @@ take-least l k n e = go (decLe k (length l))
     go (yes h) = let q : k ≡ n = omega arith in rw q
     go (no h) = take-all k l (omega arith) ∙ sym (take-all n l (omega arith))
 
--- a part lent to the end of a list is the rest of it, and it comes back as such
+-- a part up to the end of a list is the rest of it, and is put back as such
 pub lent-rest : (at : ℕ) (d : List ℕ) → midOf at (length d - at) d ≡ drop at d
 lent-rest at d = take-all (length d - at) (drop at d) (omega (arith, length-drop at d))
 
@@ -27,7 +27,7 @@ rest-back at d e =
     let none : drop (length d - at) (drop at d) ≡ [] = drop-of-length-le (drop at d) {i = length d - at} (omega (arith, length-drop at d)) in
     rw (none, append-nil e)
 
--- a copy of so many bytes as fit
+-- a copy of as many bytes as fit
 pub appended : (p piece p′ : List ℕ) (from n : ℕ) → from ≤ mostHeld → mostHeld ≤ length p → n ≡ min (length piece) (mostHeld - from)
     → p′ ≡ paste p from piece n → Appended p from piece p′ (from + n)
 appended p piece p′ from n f m e q =

@@ -8,9 +8,9 @@ use Rattle.watching.specs.Runs.{fresh, finishLine}
 use Rattle.watching.specs.Answer.{LineTaken}
 use Rattle.watching.specs.Whole.{linesFrom, Takes, Prints}
 use Rattle.watching.specs.Whole.Takes.{more as next-line}
-use Rattle.watching.specs.Chunk.{mostHeld, hold, Bites}
-use Rattle.watching.specs.Chunk.Bites.{all, full, byte, line}
-use Rattle.watching.specs.Sound.{OutputBegins}
+use Rattle.watching.specs.Chunk.{mostHeld, hold, TakesBytes}
+use Rattle.watching.specs.Chunk.TakesBytes.{all, full, byte, line}
+use Rattle.watching.specs.Claim.{OutputBegins}
 use Rattle.watching.proofs.Held.{held-taken, hold-held}
 use Rattle.watching.proofs.Unique.{one-line}
 use Rattle.watching.proofs.InPieces.{Watches, Still, lines-byte, lines-feed, watches-still}
@@ -42,15 +42,15 @@ record Parts (run : Run) (l s input : List ℕ) (run′ : Run) (h′ s′ input�
   comes : {last : Run} {s″ written : List ℕ} (later : List ℕ) → Takes run s (linesFrom l (input ++ later)) last s″ written
       → Rest run′ s′ (linesFrom begins (input′ ++ later)) last s″ bytes written
 
-bites-part : {room : ℕ} {run run′ : Run} {h h′ s s′ chunk bytes left : List ℕ} (l : List ℕ) → h ≡ take mostHeld l
-    → Bites room run h s chunk run′ h′ s′ bytes left → Parts run l s chunk run′ h′ s′ left bytes
-bites-part l e all = record { begins = l; held = e; comes = λ later k. record { rest = _; same = refl; takes = k } }
-bites-part l e (full p) = record { begins = l; held = e; comes = λ later k. record { rest = _; same = refl; takes = k } }
-bites-part l e (byte {c = c} {input = input} p n k) =
-    let r = bites-part (l ++ (c ∷ [])) (ap (λ (x : List ℕ). hold x c) e ∙ hold-held l c) k in
+bytes-part : {room : ℕ} {run run′ : Run} {h h′ s s′ chunk bytes left : List ℕ} (l : List ℕ) → h ≡ take mostHeld l
+    → TakesBytes room run h s chunk run′ h′ s′ bytes left → Parts run l s chunk run′ h′ s′ left bytes
+bytes-part l e all = record { begins = l; held = e; comes = λ later k. record { rest = _; same = refl; takes = k } }
+bytes-part l e (full p) = record { begins = l; held = e; comes = λ later k. record { rest = _; same = refl; takes = k } }
+bytes-part l e (byte {c = c} {input = input} p n k) =
+    let r = bytes-part (l ++ (c ∷ [])) (ap (λ (x : List ℕ). hold x c) e ∙ hold-held l c) k in
     record { begins = r .begins; held = r .held; comes = λ later t. r .comes later (rw (lines-byte l (input ++ later) c n) at t) }
-bites-part l e (line {input = input} {bytes = bytes} {rest = rest} p x k) =
-    let r = bites-part [] refl k in
+bytes-part l e (line {input = input} {bytes = bytes} {rest = rest} p x k) =
+    let r = bytes-part [] refl k in
     record {
       begins = r .begins;
       held = r .held;
@@ -64,7 +64,7 @@ watches-part : {run run′ : Run} {h h′ s s′ input bytes : List ℕ} (l : Li
     → Parts run l s input run′ h′ s′ [] bytes
 watches-part l e end = record { begins = l; held = e; comes = λ later k. record { rest = _; same = refl; takes = k } }
 watches-part l e (more {chunk = chunk} {bytes = bytes} {rest = rest} {left = left} later b w) =
-    let r = bites-part l e b in
+    let r = bytes-part l e b in
     let q = watches-part (r .begins) (r .held) w in
     record {
       begins = q .begins;

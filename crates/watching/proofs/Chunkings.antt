@@ -12,12 +12,12 @@ use Rattle.watching.specs.declared.Taken.{Taken}
 use Rattle.watching.specs.declared.Chunked.{Chunked}
 use Rattle.watching.specs.Answer.{IsTaken}
 use Rattle.watching.specs.Whole.Takes.{none, more}
-use Rattle.watching.specs.Chunk.{mostHeld, Bites, heldIn, IsChunked, lastLines}
-use Rattle.watching.specs.Going.{Unended, Appended, Goes, HeldRest, LastTaken}
+use Rattle.watching.specs.Chunk.{mostHeld, TakesBytes, heldIn, IsChunked, lastLines}
+use Rattle.watching.specs.Progress.{Unended, Appended, Progress, HeldRest, LastTaken}
 use Rattle.watching.proofs.Writings.{nothing-written}
-use Rattle.watching.proofs.Biting.{stops, held-all, bites-some}
+use Rattle.watching.proofs.TakingBytes.{stops, held-all, bytes-some}
 use Rattle.watching.proofs.Appending.{take-least}
-use Rattle.watching.proofs.Goings.{writes-whole}
+use Rattle.watching.proofs.Progress.{writes-whole}
 
 held-length : (held kept : ℕ) (p : List ℕ) → kept ≡ min held mostHeld → mostHeld ≤ length p → length (take kept p) ≡ kept
 held-length held kept p k long = length-take-le kept p (omega arith)
@@ -53,7 +53,7 @@ module _ {run : Run} {held kept : ℕ} {chunk p s d : List ℕ} (k : kept ≡ mi
   }
 
   -- lines were taken
-  module _ {s′ d′ : List ℕ} {r : Chunked} (g : Goes run (take kept p) 0 0 chunk s s′ d d′ r) where
+  module _ {s′ d′ : List ℕ} {r : Chunked} (g : Progress run (take kept p) 0 0 chunk s s′ d d′ r) where
     -- then there is no room for another
     pub chunk-full : length d - r .written < mostWritten → IsChunked run held chunk p p s s′ d d′ r
     chunk-full h =
@@ -95,10 +95,10 @@ module _ {run : Run} {held : ℕ} {chunk p p′ s s′ d d′ : List ℕ} {r : C
   pub chunk-some : 0 < length chunk → mostWritten ≤ length d → 0 < r .used
   chunk-some h q = omega (arith, c .used, fewer chunk h (c .taken))
     where
-      fewer : {left : List ℕ} (l : List ℕ) → 0 < length l → Bites (length d) run (heldIn held p) s l (r .run) (c .kept) s′ (c .bytes) left
+      fewer : {left : List ℕ} (l : List ℕ) → 0 < length l → TakesBytes (length d) run (heldIn held p) s l (r .run) (c .kept) s′ (c .bytes) left
           → length left < length l
       fewer [] h b = absurd (omega arith)
-      fewer (x ∷ l) h b = omega (arith, bites-some q b)
+      fewer (x ∷ l) h b = omega (arith, bytes-some q b)
 
 -- the bytes held, of a list that may be short
 last-held : (held kept : ℕ) (p : List ℕ) → kept ≡ min (min held mostHeld) (length p) → heldIn held p ≡ take kept p

@@ -9,29 +9,29 @@ use lib.Seq.{take-at, drop-at}
 use Rattle.line.specs.Answer.{IsWritten}
 use Rattle.watching.specs.declared.Run.{Run}
 use Rattle.watching.specs.declared.Chunked.{Chunked}
-use Rattle.watching.specs.Chunk.{mostHeld, heldIn, Bites, IsChunked, Given}
-use Rattle.watching.specs.Chunk.Bites.{all, full, byte, line}
+use Rattle.watching.specs.Chunk.{mostHeld, heldIn, TakesBytes, IsChunked, Given}
+use Rattle.watching.specs.Chunk.TakesBytes.{all, full, byte, line}
 use Rattle.watching.specs.Chunk.Given.{none, more}
 use Rattle.watching.specs.Claim.{InputPrints}
-use Rattle.watching.proofs.Biting.{hold-few}
+use Rattle.watching.proofs.TakingBytes.{hold-few}
 use Rattle.watching.proofs.InPieces.{Watches, pieces-print}
 use Rattle.watching.proofs.InPieces.Watches.{end, more as next}
 
 -- no more bytes than a line may have are held
-bites-few : {room : ℕ} {run run′ : Run} {h h′ s s′ input bytes left : List ℕ} → length h ≤ mostHeld
-    → Bites room run h s input run′ h′ s′ bytes left → length h′ ≤ mostHeld
-bites-few f all = f
-bites-few f (full p) = f
-bites-few f (byte {c = c} {h = h} p n b) = bites-few (hold-few h c) b
-bites-few f (line p t b) = bites-few (omega arith) b
+bytes-few : {room : ℕ} {run run′ : Run} {h h′ s s′ input bytes left : List ℕ} → length h ≤ mostHeld
+    → TakesBytes room run h s input run′ h′ s′ bytes left → length h′ ≤ mostHeld
+bytes-few f all = f
+bytes-few f (full p) = f
+bytes-few f (byte {c = c} {h = h} p n b) = bytes-few (hold-few h c) b
+bytes-few f (line p t b) = bytes-few (omega arith) b
 
 -- what is left is the end of the input
-bites-rest : {room : ℕ} {run run′ : Run} {h h′ s s′ input bytes left : List ℕ} → Bites room run h s input run′ h′ s′ bytes left
+bytes-rest : {room : ℕ} {run run′ : Run} {h h′ s s′ input bytes left : List ℕ} → TakesBytes room run h s input run′ h′ s′ bytes left
     → (front : List ℕ) × (input ≡ front ++ left)
-bites-rest all = ([], refl)
-bites-rest (full p) = ([], refl)
-bites-rest (byte {c = c} p n b) = let r = bites-rest b in (c ∷ r .0, ap (λ (l : List ℕ). c ∷ l) (r .1))
-bites-rest (line p t b) = let r = bites-rest b in (10 ∷ r .0, ap (λ (l : List ℕ). 10 ∷ l) (r .1))
+bytes-rest all = ([], refl)
+bytes-rest (full p) = ([], refl)
+bytes-rest (byte {c = c} p n b) = let r = bytes-rest b in (c ∷ r .0, ap (λ (l : List ℕ). c ∷ l) (r .1))
+bytes-rest (line p t b) = let r = bytes-rest b in (10 ∷ r .0, ap (λ (l : List ℕ). 10 ∷ l) (r .1))
 
 -- what was written stands first
 written-first : {bytes d d′ : List ℕ} {n : ℕ} → IsWritten bytes d d′ n → take n d′ ≡ bytes
@@ -40,13 +40,13 @@ written-first {bytes} {d} {d′} {n} w = rw (w .written) (take-at bytes (drop n 
 module _ {run : Run} {held : ℕ} {chunk p p′ s s′ d d′ : List ℕ} {r : Chunked} (x : IsChunked run held chunk p p′ s s′ d d′ r) where
   still-held : heldIn (r .held) p′ ≡ x .kept
   still-held =
-      let f : length (x .kept) ≤ mostHeld = bites-few (omega (arith, length-take (min held mostHeld) p)) (x .taken) in
+      let f : length (x .kept) ≤ mostHeld = bytes-few (omega (arith, length-take (min held mostHeld) p)) (x .taken) in
       let e : min (r .held) mostHeld ≡ length (x .kept) = omega (arith, x .counts) in
       rw (x .holds, e) (take-at (x .kept) (drop (length (x .kept)) p) (length (x .kept)) refl)
 
   still-left : drop (r .used) chunk ≡ x .left
   still-left =
-      let q = bites-rest (x .taken) in
+      let q = bytes-rest (x .taken) in
       let e : length (q .0) ≡ r .used = omega (arith, x .used, length-append (q .0) (x .left), ap length (q .1)) in
       ap (drop (r .used)) (q .1) ∙ drop-at (q .0) (x .left) (r .used) e
 

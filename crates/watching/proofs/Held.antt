@@ -8,38 +8,38 @@ use native.Mathlib.Omega.{arith}
 use lib.ListN.{length, take}
 use lib.Seq.{length-take-le, take-all, take-append-le}
 use Rattle.rules.specs.Limits.{mostText}
-use Rattle.refusal.specs.declared.Refusal.{Refusal}
 use Rattle.text.specs.Answer.RefusedText.{long, syntax, many, room}
 use Rattle.line.specs.Answer.RefusedLine.{long as long-line, malformed, range}
 use Rattle.watching.specs.declared.Run.{Run}
-use Rattle.watching.specs.Answer.{BeginRefused, StepRefused, LineTaken}
-use Rattle.watching.specs.Answer.BeginRefused.{unread as no-text, unopened}
-use Rattle.watching.specs.Answer.StepRefused.{unread as no-tick, unticked}
-use Rattle.watching.specs.Answer.LineTaken.{begun, unbegun, window, nothing, refused, after}
+use Rattle.watching.specs.declared.LineAnswer.{LineAnswer}
+use Rattle.watching.specs.Answer.{FirstLine, FurtherLine, LineTaken}
+use Rattle.watching.specs.Answer.FirstLine.{unread as no-text, unopened, opened}
+use Rattle.watching.specs.Answer.FurtherLine.{unread as no-tick, unticked, window, nothing}
+use Rattle.watching.specs.Answer.LineTaken.{first, further, after}
 use Rattle.watching.specs.Chunk.{mostHeld, hold}
 
 module _ (h l : List ℕ) (over : mostText < length h) (over′ : mostText < length l) where
   -- as line 1 both are refused for their length
-  long-begin : {s : List ℕ} {r : Refusal} → BeginRefused h s r → BeginRefused l s r
-  long-begin (no-text {body} (long x, e)) = no-text {body = body} (long (record { long = over′ }), e)
-  long-begin (no-text (syntax x, e)) = absurd (omega (arith, x .short))
-  long-begin (no-text (many x, e)) = absurd (omega (arith, x .some .short))
-  long-begin (no-text (room x, e)) = absurd (omega (arith, x .some .short))
-  long-begin (unopened x y) = absurd (omega (arith, x .some .short))
+  long-first : {s s′ : List ℕ} {a : LineAnswer} → FirstLine h s s′ a → FirstLine l s s′ a
+  long-first (no-text {body} (long x, e) k) = no-text {body = body} (long (record { long = over′ }), e) k
+  long-first (no-text (syntax x, e) k) = absurd (omega (arith, x .short))
+  long-first (no-text (many x, e) k) = absurd (omega (arith, x .some .short))
+  long-first (no-text (room x, e) k) = absurd (omega (arith, x .some .short))
+  long-first (unopened x y) = absurd (omega (arith, x .some .short))
+  long-first (opened x y) = absurd (omega (arith, x .some .short))
 
   -- and so they are as a further line
-  long-step : {s : List ℕ} {r : Refusal} → StepRefused h s r → StepRefused l s r
-  long-step (no-tick (long-line x)) = no-tick (long-line over′)
-  long-step (no-tick (malformed x)) = no-tick (long-line over′)
-  long-step (no-tick (range x)) = absurd (omega (arith, x .short))
-  long-step (unticked i) = absurd (omega (arith, i .read .short))
+  long-further : {s s′ : List ℕ} {a : LineAnswer} → FurtherLine h s s′ a → FurtherLine l s s′ a
+  long-further (no-tick (long-line x) k) = no-tick (long-line over′) k
+  long-further (no-tick (malformed x) k) = no-tick (long-line over′) k
+  long-further (no-tick (range x) k) = absurd (omega (arith, x .short))
+  long-further (unticked x y) = absurd (omega (arith, x .short))
+  long-further (window x y) = absurd (omega (arith, x .short))
+  long-further (nothing x y) = absurd (omega (arith, x .short))
 
   long-taken : {run run′ : Run} {s s′ bytes : List ℕ} → LineTaken run h s s′ run′ bytes → LineTaken run l s s′ run′ bytes
-  long-taken (begun p i) = absurd (omega (arith, i .read .some .short))
-  long-taken (unbegun p (x, e)) = unbegun p (long-begin x, e)
-  long-taken (window p i w) = absurd (omega (arith, i .read .short))
-  long-taken (nothing p (t, i)) = absurd (omega (arith, i .read .short))
-  long-taken (refused p (x, e)) = refused p (long-step x, e)
+  long-taken (first p x a) = first p (long-first x) a
+  long-taken (further p x a) = further p (long-further x) a
   long-taken (after p e) = after p e
 
 -- the whole line is taken as what is held of it

@@ -8,20 +8,21 @@ use borrow.Author.Tests.{ne-eqb}
 use lib.ListN.{length, take, length-append, length-take}
 use Rattle.watching.specs.declared.Run.{Run}
 use Rattle.watching.specs.Runs.{fresh}
-use Rattle.watching.specs.Answer.{LineTaken}
-use Rattle.watching.specs.Answer.Windowed.{added, full as over}
-use Rattle.watching.specs.Answer.LineTaken.{begun, unbegun, window, nothing, refused, after}
+use Rattle.watching.specs.declared.LineAnswer.{LineAnswer}
+use Rattle.watching.specs.Answer.{Acted, LineTaken}
+use Rattle.watching.specs.Answer.Acted.{silent, added, full as over, refused}
+use Rattle.watching.specs.Answer.LineTaken.{first, further, after}
 use Rattle.watching.specs.Whole.{linesFrom, Takes, Prints}
 use Rattle.watching.specs.Whole.Takes.{more as next-line}
-use Rattle.watching.specs.Chunk.{mostHeld, hold, lastLines, Bites, Ends}
-use Rattle.watching.specs.Chunk.Bites.{all, full, byte, line}
+use Rattle.watching.specs.Chunk.{mostHeld, hold, lastLines, TakesBytes, Ends}
+use Rattle.watching.specs.Chunk.TakesBytes.{all, full, byte, line}
 use Rattle.watching.proofs.Held.{held-taken, hold-held}
 
 -- bytes taken in pieces, where what a piece leaves comes first in the next
 pub data Watches : Run → List ℕ → List ℕ → List ℕ → Run → List ℕ → List ℕ → List ℕ → Type 0 where
   end : {run : Run} {h s : List ℕ} → Watches run h s [] run h s []
   more : {room : ℕ} {run run₁ run′ : Run} {h h₁ h′ s s₁ s′ chunk bytes rest left : List ℕ} (later : List ℕ)
-      → Bites room run h s chunk run₁ h₁ s₁ bytes left → Watches run₁ h₁ s₁ (left ++ later) run′ h′ s′ rest
+      → TakesBytes room run h s chunk run₁ h₁ s₁ bytes left → Watches run₁ h₁ s₁ (left ++ later) run′ h′ s′ rest
       → Watches run h s (chunk ++ later) run′ h′ s′ (bytes ++ rest)
 
 -- ---- the lines taken
@@ -31,7 +32,7 @@ pub data Watches : Run → List ℕ → List ℕ → List ℕ → Run → List �
 record Reaches (run : Run) (l s input : List ℕ) (run′ : Run) (h′ s′ input′ bytes : List ℕ) : Type 0 where
   begins : List ℕ
   held : h′ ≡ take mostHeld begins
-  goes : {last : Run} {s″ rest : List ℕ} (later : List ℕ) → Takes run′ s′ (linesFrom begins (input′ ++ later)) last s″ rest
+  leads : {last : Run} {s″ rest : List ℕ} (later : List ℕ) → Takes run′ s′ (linesFrom begins (input′ ++ later)) last s″ rest
       → Takes run s (linesFrom l (input ++ later)) last s″ (bytes ++ rest)
 
 -- a byte that ends no line
@@ -44,45 +45,47 @@ pub lines-feed : (l input : List ℕ) → linesFrom l (10 ∷ input) ≡ l ∷ l
 unfolding linesFrom
 lines-feed l input = refl
 
-bites-reach : {room : ℕ} {run run′ : Run} {h h′ s s′ chunk bytes left : List ℕ} (l : List ℕ) → h ≡ take mostHeld l
-    → Bites room run h s chunk run′ h′ s′ bytes left → Reaches run l s chunk run′ h′ s′ left bytes
-bites-reach l e all = record { begins = l; held = e; goes = λ later k. k }
-bites-reach l e (full p) = record { begins = l; held = e; goes = λ later k. k }
-bites-reach l e (byte {c = c} {input = input} p n k) =
-    let r = bites-reach (l ++ (c ∷ [])) (ap (λ (x : List ℕ). hold x c) e ∙ hold-held l c) k in
-    record { begins = r .begins; held = r .held; goes = λ later t. rw (lines-byte l (input ++ later) c n) (r .goes later t) }
-bites-reach l e (line {input = input} p x k) =
-    let r = bites-reach [] refl k in
+bytes-reach : {room : ℕ} {run run′ : Run} {h h′ s s′ chunk bytes left : List ℕ} (l : List ℕ) → h ≡ take mostHeld l
+    → TakesBytes room run h s chunk run′ h′ s′ bytes left → Reaches run l s chunk run′ h′ s′ left bytes
+bytes-reach l e all = record { begins = l; held = e; leads = λ later k. k }
+bytes-reach l e (full p) = record { begins = l; held = e; leads = λ later k. k }
+bytes-reach l e (byte {c = c} {input = input} p n k) =
+    let r = bytes-reach (l ++ (c ∷ [])) (ap (λ (x : List ℕ). hold x c) e ∙ hold-held l c) k in
+    record { begins = r .begins; held = r .held; leads = λ later t. rw (lines-byte l (input ++ later) c n) (r .leads later t) }
+bytes-reach l e (line {input = input} p x k) =
+    let r = bytes-reach [] refl k in
     record {
       begins = r .begins;
       held = r .held;
-      goes = λ later t. rw (lines-feed l (input ++ later), append-assoc) (next-line (held-taken l (rw e at x)) (r .goes later t));
+      leads = λ later t. rw (lines-feed l (input ++ later), append-assoc) (next-line (held-taken l (rw e at x)) (r .leads later t));
     }
 
 watches-reach : {run run′ : Run} {h h′ s s′ input bytes : List ℕ} (l : List ℕ) → h ≡ take mostHeld l → Watches run h s input run′ h′ s′ bytes
     → Reaches run l s input run′ h′ s′ [] bytes
-watches-reach l e end = record { begins = l; held = e; goes = λ later k. k }
+watches-reach l e end = record { begins = l; held = e; leads = λ later k. k }
 watches-reach l e (more {chunk = chunk} {bytes = bytes} {left = left} later b w) =
-    let r = bites-reach l e b in
+    let r = bytes-reach l e b in
     let q = watches-reach (r .begins) (r .held) w in
     record {
       begins = q .begins;
       held = q .held;
-      goes = λ last t.
-          let k = rw (append-assoc left later last) at (q .goes last t) in
-          rw (append-assoc chunk later last, append-assoc bytes) (r .goes (later ++ last) k);
+      leads = λ last t.
+          let k = rw (append-assoc left later last) at (q .leads last t) in
+          rw (append-assoc chunk later last, append-assoc bytes) (r .leads (later ++ last) k);
     }
 
 -- ---- an input that is not empty
 
 -- a line that is taken leaves no fresh run
+acted-begins : {run run′ : Run} {a : LineAnswer} {bytes : List ℕ} → Acted run a run′ bytes → 0 < run′ .phase
+acted-begins silent = omega arith
+acted-begins (added e) = omega arith
+acted-begins (over e) = omega arith
+acted-begins refused = omega arith
+
 taken-begins : {run run′ : Run} {l s s′ bytes : List ℕ} → LineTaken run l s s′ run′ bytes → 0 < run′ .phase
-taken-begins (begun p i) = omega arith
-taken-begins (unbegun p i) = omega arith
-taken-begins (window p i (added e)) = omega arith
-taken-begins (window p i (over e)) = omega arith
-taken-begins (nothing p i) = omega arith
-taken-begins (refused p i) = omega arith
+taken-begins (first p x a) = acted-begins a
+taken-begins (further p x a) = acted-begins a
 taken-begins (after p e) = omega arith
 
 -- before line 1, with nothing held
@@ -94,19 +97,19 @@ record Unmoved (run : Run) (h : List ℕ) : Type 0 where
 hold-some : (h : List ℕ) (c : ℕ) → hold h c ≡ [] → ⊥
 hold-some h c e = omega (arith, length-take mostHeld (h ++ (c ∷ [])), length-append h (c ∷ []), ap length e)
 
-bites-unmoved : {room : ℕ} {run run′ : Run} {h h′ s s′ chunk bytes left : List ℕ} → Bites room run h s chunk run′ h′ s′ bytes left → Unmoved run′ h′
+bytes-unmoved : {room : ℕ} {run run′ : Run} {h h′ s s′ chunk bytes left : List ℕ} → TakesBytes room run h s chunk run′ h′ s′ bytes left → Unmoved run′ h′
     → Unmoved run h × (left ≡ chunk)
-bites-unmoved all u = (u, refl)
-bites-unmoved (full p) u = (u, refl)
-bites-unmoved (byte {c = c} {h = h} p n k) u = absurd (hold-some h c (bites-unmoved k u .0 .empty))
-bites-unmoved (line p x k) u = absurd (omega (arith, taken-begins x, bites-unmoved k u .0 .first))
+bytes-unmoved all u = (u, refl)
+bytes-unmoved (full p) u = (u, refl)
+bytes-unmoved (byte {c = c} {h = h} p n k) u = absurd (hold-some h c (bytes-unmoved k u .0 .empty))
+bytes-unmoved (line p x k) u = absurd (omega (arith, taken-begins x, bytes-unmoved k u .0 .first))
 
 watches-unmoved : {run run′ : Run} {h h′ s s′ input bytes : List ℕ} → Watches run h s input run′ h′ s′ bytes → Unmoved run′ h′
     → Unmoved run h × (input ≡ [])
 watches-unmoved end u = (u, refl)
 watches-unmoved (more later b w) u =
     let v = watches-unmoved w u in
-    let z = bites-unmoved b (v .0) in
+    let z = bytes-unmoved b (v .0) in
     (z .0, rw (← z .1) (v .1))
 
 -- ---- an input that is empty
@@ -146,6 +149,6 @@ pieces-print s s₁ s′ (c ∷ input) bytes last h run w x =
       run = x .last;
       state = s′;
       bytes = bytes ++ x .bytes;
-      takes = rw (append-nil (c ∷ input)) at (r .goes [] k);
+      takes = rw (append-nil (c ∷ input)) at (r .leads [] k);
       whole = rw (x .whole, append-assoc bytes);
     }

@@ -3,12 +3,12 @@ pub mod Takings
 pub mod Whole
 pub mod Unique
 pub mod Rooms
-pub mod Biting
+pub mod TakingBytes
 pub mod Appending
-pub mod Goings
+pub mod Progress
 pub mod LineFeeds
 pub mod Gatherings
-pub mod Tellings
+pub mod Reports
 pub mod Batches
 pub mod Chunkings
 pub mod Held
@@ -17,3 +17,4 @@ pub mod Given
 pub mod UniqueChunk
 pub mod Sounds
 pub mod Begins
+pub mod Theorem

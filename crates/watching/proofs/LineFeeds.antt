@@ -12,7 +12,7 @@ use Rattle.rules.specs.Bits.{bit}
 use Rattle.text.specs.Render.{letterByte, digitsIn}
 use Rattle.line.specs.Lines.{decimal, letterIf, lettersFrom, lettersOf}
 use Rattle.line.specs.Answer.{IsTick}
-use Rattle.watching.specs.Going.{lineLength}
+use Rattle.watching.specs.Progress.{lineLength}
 
 -- no byte is a line feed
 abbrev Feedless : List ℕ → Type 0

@@ -15,48 +15,48 @@ use Rattle.refusal.specs.declared.Refusal.{Refusal}
 use Rattle.body.specs.Claim.{BodyOf}
 use Rattle.body.proofs.Bodies.{length-encode}
 use Rattle.text.specs.declared.Reading.the-variants as Reads
-use Rattle.text.proofs.Claims.{one-pattern, accepted-exactly}
+use Rattle.text.proofs.Theorem.{one-pattern, accepted-exactly}
 use Rattle.watcher.specs.declared.Opening.the-variants as Opens
 use Rattle.watcher.specs.declared.Ticking.the-variants as Ticks
 use Rattle.watcher.specs.State.{stateOf, roomOf}
-use Rattle.watcher.specs.Claim.{Watched, opened, window as windowed, nothing as unmoved}
+use Rattle.watcher.specs.Claim.{Watched, opened as watched, window as windowed, nothing as unmoved}
 use Rattle.watcher.proofs.Theorem.{agrees, one-opening}
 use Rattle.tally.specs.declared.Tally.{Tally}
 use Rattle.tally.specs.declared.Adding.the-variants as Adds
 use Rattle.tally.specs.Tallied.{addedTo, more as counted}
 use Rattle.line.specs.declared.LineRead.the-variants as Lines
 use Rattle.line.specs.Answer.{IsTick}
-use Rattle.line.proofs.Claims.{one-tick, one-reading}
+use Rattle.line.proofs.Theorem.{one-tick, one-reading}
 use Rattle.watching.specs.declared.Run.{Run}
-use Rattle.watching.specs.Runs.{tallyOf, wentOn}
-use Rattle.watching.specs.Answer.{noBody, BeginRefused, StepRefused}
-use Rattle.watching.specs.Answer.BeginRefused.{unread as no-text, unopened}
-use Rattle.watching.specs.Answer.StepRefused.{unread as no-tick, unticked}
-use Rattle.watching.specs.Answer.Windowed.{added, full}
-use Rattle.watching.specs.Answer.LineTaken.{begun, unbegun, window, nothing, refused, after}
+use Rattle.watching.specs.Runs.{nextRun}
+use Rattle.watching.specs.declared.LineAnswer.the-variants.{Refused}
+use Rattle.watching.specs.Answer.{noBody, FirstLine, FurtherLine}
+use Rattle.watching.specs.Answer.FirstLine.{unread as no-text, unopened, opened}
+use Rattle.watching.specs.Answer.FurtherLine.{unread as no-tick, unticked, window, nothing}
+use Rattle.watching.specs.Answer.Acted.{silent, added, full, refused}
+use Rattle.watching.specs.Answer.LineTaken.{first, further, after}
 use Rattle.watching.specs.Whole.{Takes}
 use Rattle.watching.specs.Whole.Takes.{none, more}
-use Rattle.watching.specs.Claim.{AreTicks}
+use Rattle.watching.specs.Claim.{AreTicks, Sound, SoundAccepted, SoundPrinted}
 use Rattle.watching.specs.Claim.AreTicks.{none as no-lines, tick as line}
-use Rattle.watching.specs.Sound.{Sound, SoundAccepted, SoundPrinted}
-use Rattle.watching.proofs.Tellings.{added-fits}
+use Rattle.watching.proofs.Reports.{added-fits}
 use Rattle.watching.proofs.Batches.{ticked-fair}
 use Rattle.watching.proofs.Whole.{read-body, output-agrees}
 
 -- ---- line 1
 
 -- the text of a pattern within the limits opens a state that has room for it
-not-unbegun : {p s : List ℕ} {r : Refusal} {ls : List (List ℕ)} (x : Sound p ls) → roomOf (x .pattern) ≤ length s → BeginRefused p s r → ⊥
-not-unbegun {p} {s} {r} x h (no-text {body} a) =
+not-unopened : {p s s′ : List ℕ} {r : Refusal} {ls : List (List ℕ)} (x : Sound p ls) → roomOf (x .pattern) ≤ length s → FirstLine p s s′ (Refused r) → ⊥
+not-unopened {p} {s} {s′} {r} x h (no-text {body} a k) =
     let room = length-encode argumentBytes (x .pattern) in
     let e = accepted-exactly p noBody body (Reads.Refused r) a .1
     (x .pattern, record { text = x .text; short = x .short; few = x .few; room = omega (arith, x .few) }) in
     let q = e .1 in
     impossible cc
-not-unbegun {p} {s} {r} x h (unopened {body} {bytes} a o) =
+not-unopened {p} {s} {s′} {r} x h (unopened {body} {bytes} a o) =
     let e = a .some .tree in
     let same = ap roomOf (one-pattern p e (x .pattern) (a .some .text) (x .text)) in
-    let q = one-opening (take bytes body) s (stateOf e 0 (blank e) ++ drop (roomOf e) s) s Opens.Opened (Opens.Refused r)
+    let q = one-opening (take bytes body) s (stateOf e 0 (blank e) ++ drop (roomOf e) s) s′ Opens.Opened (Opens.Refused r)
     (record { pattern = e; body = read-body a; room = omega arith; words = refl }) o .0 in
     impossible cc
 
@@ -64,24 +64,24 @@ not-unbegun {p} {s} {r} x h (unopened {body} {bytes} a o) =
 
 -- at most one window for each tick below τ, and none of more than 2^32 ticks
 record Few (run : Run) (τ : ℕ) : Type 0 where
-  windows : run .windows ≤ τ
-  ticks : run .ticks ≤ τ * 2 ^ 32 - 1
+  windows : run .tally .windows ≤ τ
+  ticks : run .tally .ticks ≤ τ * 2 ^ 32 - 1
 
 module _ (run : Run) (τ start t : ℕ) (f : Few run τ) (late : τ ≤ t) (range : t < ticks) where
   -- so there is room for a window that ends at a tick in range
-  fits : start ≤ t → addedTo (tallyOf run) start t ≡ Adds.Added (counted (tallyOf run) start t)
-  fits h = added-fits (tallyOf run) start t h range (omega (arith, f .windows)) (omega (arith, f .ticks))
+  fits : start ≤ t → addedTo (run .tally) start t ≡ Adds.Added (counted (run .tally) start t)
+  fits h = added-fits (run .tally) start t h range (omega (arith, f .windows)) (omega (arith, f .ticks))
 
-  few-more : (tally : Tally) → start ≤ t → addedTo (tallyOf run) start t ≡ Adds.Added tally → Few (wentOn run tally) (suc t)
+  few-more : (tally : Tally) → start ≤ t → addedTo (run .tally) start t ≡ Adds.Added tally → Few (nextRun run tally) (suc t)
   few-more tally h e =
       let k = fits h in
-      let same : tally ≡ counted (tallyOf run) start t = cc in
+      let same : tally ≡ counted (run .tally) start t = cc in
       record { windows = rw same (omega (arith, f .windows)); ticks = rw same (omega (arith, f .ticks)) }
 
-  few-still : Few (wentOn run (tallyOf run)) (suc t)
+  few-still : Few (nextRun run (run .tally)) (suc t)
   few-still = record { windows = omega (arith, f .windows); ticks = omega (arith, f .ticks) }
 
-  never-full : {r : Refusal} → start ≤ t → addedTo (tallyOf run) start t ≡ Adds.Refused r → ⊥
+  never-full : {r : Refusal} → start ≤ t → addedTo (run .tally) start t ≡ Adds.Refused r → ⊥
   never-full h e =
       let k = fits h in
       impossible cc
@@ -90,47 +90,46 @@ module _ (run : Run) (τ start t : ℕ) (f : Few run τ) (late : τ ≤ t) (rang
 
 module _ (b : List ℕ) (e : Pattern) (body : BodyOf argumentBytes b e) where
   -- a tick that is allowed is not refused
-  not-refused : {h : List Tick} {s l : List ℕ} {t w : ℕ} {r : Refusal} → Watched b h s → IsTick l t w → nextTick 0 h ≤ t → StepRefused l s r → ⊥
-  not-refused {l = l} {t = t} {w = w} {r = r} x i late (no-tick y) =
+  not-refused : {h : List Tick} {s s′ l : List ℕ} {t w : ℕ} {r : Refusal} → Watched b h s → IsTick l t w → nextTick 0 h ≤ t
+      → FurtherLine l s s′ (Refused r) → ⊥
+  not-refused {l = l} {t = t} {w = w} {r = r} x i late (no-tick y k) =
       let q = one-reading l (Lines.Tick t w) (Lines.Refused r) i y in
       impossible cc
-  not-refused {h} {s} {l} {t} {w} {r} x i late (unticked {t = t′} y) =
-      let q = one-tick l t w t′ (y .events) (i .line) (y .read .line) in
-      agrees b e body h s s x t′ (y .events) (Ticks.Refused r) (omega (arith, q .0)) (y .read .range) (y .ticked) .1
+  not-refused {h} {s} {s′} {l} {t} {w} {r} x i late (unticked {t = t′} {w = w′} y k) =
+      let q = one-tick l t w t′ w′ (i .line) (y .line) in
+      agrees b e body h s s′ x t′ w′ (Ticks.Refused r) (omega (arith, q .0)) (y .range) k .1
 
-  sound-goes : {h k : List Tick} {run run′ : Run} {s s′ bytes : List ℕ} {ls : List (List ℕ)} → Watched b h s → Few run (nextTick 0 h) → run .phase ≡ 1
+  sound-runs : {h k : List Tick} {run run′ : Run} {s s′ bytes : List ℕ} {ls : List (List ℕ)} → Watched b h s → Few run (nextTick 0 h) → run .phase ≡ 1
       → AreTicks ls k → Rising (nextTick 0 h) k → Takes run s ls run′ s′ bytes → run′ .phase ≡ 1
-  sound-goes x f p no-lines r none = p
-  sound-goes x f p (line t w i a) r (more (begun z j) g) = absurd (omega arith)
-  sound-goes x f p (line t w i a) r (more (unbegun z j) g) = absurd (omega arith)
-  sound-goes {h} {run = run} x f p (line t w i a) r (more {l = l} (window {start} {t = t′} z j (added {tally} y)) g) =
-      let q = one-tick l t w t′ (j .events) (i .line) (j .read .line) in
+  sound-runs x f p no-lines r none = p
+  sound-runs x f p (line t w i a) r (more (first z j y) g) = absurd (omega arith)
+  sound-runs x f p (line t w i a) r (more (further z (no-tick j k) refused) g) = absurd (not-refused x i (r .0) (no-tick j k))
+  sound-runs x f p (line t w i a) r (more (further z (unticked j k) refused) g) = absurd (not-refused x i (r .0) (unticked j k))
+  sound-runs {h} {run = run} x f p (line t w i a) r (more {l = l} (further z (window {t = t′} {w = w′} {start} j k) (added {tally = tally} y)) g) =
+      let q = one-tick l t w t′ w′ (i .line) (j .line) in
       let late : nextTick 0 h ≤ t′ = omega (arith, q .0, r .0) in
-      let next = nextTick-snoc 0 h (t′, j .events) in
-      sound-goes (windowed t′ (j .events) start x (j .ticked))
-      (rw next (few-more run (nextTick 0 h) start t′ f late (j .read .range) tally (omega (arith, ticked-fair (j .ticked) .within)) y))
+      let next = nextTick-snoc 0 h (t′, w′) in
+      sound-runs (windowed t′ w′ start x k)
+      (rw next (few-more run (nextTick 0 h) start t′ f late (j .range) tally (omega (arith, ticked-fair k .within)) y))
       refl a (rw (next, ← q .0) (r .1)) g
-  sound-goes {h} {run = run} x f p (line t w i a) r (more {l = l} (window {start} {t = t′} z j (full y)) g) =
-      let q = one-tick l t w t′ (j .events) (i .line) (j .read .line) in
+  sound-runs {h} {run = run} x f p (line t w i a) r (more {l = l} (further z (window {t = t′} {w = w′} {start} j k) (full y)) g) =
+      let q = one-tick l t w t′ w′ (i .line) (j .line) in
       let late : nextTick 0 h ≤ t′ = omega (arith, q .0, r .0) in
-      absurd (never-full run (nextTick 0 h) start t′ f late (j .read .range) (omega (arith, ticked-fair (j .ticked) .within)) y)
-  sound-goes {h} {run = run} x f p (line t w i a) r (more {l = l} (nothing z (t′, j)) g) =
-      let q = one-tick l t w t′ (j .events) (i .line) (j .read .line) in
+      absurd (never-full run (nextTick 0 h) start t′ f late (j .range) (omega (arith, ticked-fair k .within)) y)
+  sound-runs {h} {run = run} x f p (line t w i a) r (more {l = l} (further z (nothing {t = t′} {w = w′} j k) silent) g) =
+      let q = one-tick l t w t′ w′ (i .line) (j .line) in
       let late : nextTick 0 h ≤ t′ = omega (arith, q .0, r .0) in
-      let next = nextTick-snoc 0 h (t′, j .events) in
-      sound-goes (unmoved t′ (j .events) x (j .ticked)) (rw next (few-still run (nextTick 0 h) 0 t′ f late (j .read .range))) refl a
+      let next = nextTick-snoc 0 h (t′, w′) in
+      sound-runs (unmoved t′ w′ x k) (rw next (few-still run (nextTick 0 h) 0 t′ f late (j .range))) refl a
       (rw (next, ← q .0) (r .1)) g
-  sound-goes x f p (line t w i a) r (more (refused z j) g) = absurd (not-refused x i (r .0) (j .0))
-  sound-goes x f p (line t w i a) r (more (after z j) g) = absurd (omega arith)
+  sound-runs x f p (line t w i a) r (more (after z j) g) = absurd (omega arith)
 
 pub sound-accepted : SoundAccepted
-sound-accepted s s′ p bytes ls run x h (more (begun z i) g) =
-    sound-goes (take (i .bytes) (i .body)) (i .read .some .tree) (read-body (i .read)) (opened (i .opened))
-    (record { windows = omega arith; ticks = omega arith }) refl (x .lines) (x .rising) g
-sound-accepted s s′ p bytes ls run x h (more (unbegun z i) g) = absurd (not-unbegun x h (i .0))
-sound-accepted s s′ p bytes ls run x h (more (window z i y) g) = absurd (omega arith)
-sound-accepted s s′ p bytes ls run x h (more (nothing z i) g) = absurd (omega arith)
-sound-accepted s s′ p bytes ls run x h (more (refused z i) g) = absurd (omega arith)
+sound-accepted s s′ p bytes ls run x h (more (first z (opened {body} {bytes = n} i j) silent) g) =
+    sound-runs (take n body) (i .some .tree) (read-body i) (watched j) (record { windows = omega arith; ticks = omega arith }) refl (x .lines) (x .rising) g
+sound-accepted s s′ p bytes ls run x h (more (first z (no-text i j) refused) g) = absurd (not-unopened x h (no-text i j))
+sound-accepted s s′ p bytes ls run x h (more (first z (unopened i j) refused) g) = absurd (not-unopened x h (unopened i j))
+sound-accepted s s′ p bytes ls run x h (more (further z i y) g) = absurd (omega arith)
 sound-accepted s s′ p bytes ls run x h (more (after z i) g) = absurd (omega arith)
 
 -- ---- the output

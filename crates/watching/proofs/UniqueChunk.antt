@@ -10,8 +10,8 @@ use Rattle.watching.specs.declared.Chunking.the-variants as Chunks
 use Rattle.watching.specs.declared.Finishing.the-variants as Ending
 use Rattle.watching.specs.Whole.{Takes}
 use Rattle.watching.specs.Whole.Takes.{none, more}
-use Rattle.watching.specs.Chunk.{Bites, IsChunked}
-use Rattle.watching.specs.Chunk.Bites.{all, full, byte, line}
+use Rattle.watching.specs.Chunk.{TakesBytes, IsChunked}
+use Rattle.watching.specs.Chunk.TakesBytes.{all, full, byte, line}
 use Rattle.watching.specs.Claim.{OneChunk, OneEnd}
 use Rattle.watching.proofs.Unique.{one-line, one-written}
 
@@ -23,20 +23,20 @@ record Alike (run₁ run₂ : Run) (h₁ h₂ s₁ s₂ b₁ b₂ left₁ left�
   bytes : b₁ ≡ b₂
   left : left₁ ≡ left₂
 
-one-bites : {room : ℕ} {run run₁ run₂ : Run} {h h₁ h₂ s s₁ s₂ chunk b₁ b₂ left₁ left₂ : List ℕ} → Bites room run h s chunk run₁ h₁ s₁ b₁ left₁
-    → Bites room run h s chunk run₂ h₂ s₂ b₂ left₂ → Alike run₁ run₂ h₁ h₂ s₁ s₂ b₁ b₂ left₁ left₂
-one-bites all all = record { run = refl; held = refl; state = refl; bytes = refl; left = refl }
-one-bites (full p) (full q) = record { run = refl; held = refl; state = refl; bytes = refl; left = refl }
-one-bites (full p) (byte q n y) = absurd (omega arith)
-one-bites (full p) (line q y k) = absurd (omega arith)
-one-bites (byte p n x) (full q) = absurd (omega arith)
-one-bites (byte p n x) (byte q n′ y) = one-bites x y
-one-bites (byte p n x) (line q y k) = absurd (n refl)
-one-bites (line p x j) (full q) = absurd (omega arith)
-one-bites (line p x j) (byte q n y) = absurd (n refl)
-one-bites (line p x j) (line q y k) =
+one-taking : {room : ℕ} {run run₁ run₂ : Run} {h h₁ h₂ s s₁ s₂ chunk b₁ b₂ left₁ left₂ : List ℕ} → TakesBytes room run h s chunk run₁ h₁ s₁ b₁ left₁
+    → TakesBytes room run h s chunk run₂ h₂ s₂ b₂ left₂ → Alike run₁ run₂ h₁ h₂ s₁ s₂ b₁ b₂ left₁ left₂
+one-taking all all = record { run = refl; held = refl; state = refl; bytes = refl; left = refl }
+one-taking (full p) (full q) = record { run = refl; held = refl; state = refl; bytes = refl; left = refl }
+one-taking (full p) (byte q n y) = absurd (omega arith)
+one-taking (full p) (line q y k) = absurd (omega arith)
+one-taking (byte p n x) (full q) = absurd (omega arith)
+one-taking (byte p n x) (byte q n′ y) = one-taking x y
+one-taking (byte p n x) (line q y k) = absurd (n refl)
+one-taking (line p x j) (full q) = absurd (omega arith)
+one-taking (line p x j) (byte q n y) = absurd (n refl)
+one-taking (line p x j) (line q y k) =
     let u = one-line _ _ _ _ _ _ _ _ _ y x in
-    let v = one-bites j (rw (u .0, u .1, u .2) at k) in
+    let v = one-taking j (rw (u .0, u .1, u .2) at k) in
     record { run = v .run; held = v .held; state = v .state; bytes = rw (u .2, v .bytes); left = v .left }
 
 -- lines are taken in one way
@@ -56,7 +56,7 @@ same p q r s = rw (p, q, r, s)
 one-chunked : (run : Run) (held : ℕ) (chunk p p₁ p₂ s s₁ s₂ d d₁ d₂ : List ℕ) (r₁ r₂ : Chunked) → IsChunked run held chunk p p₁ s s₁ d d₁ r₁
     → IsChunked run held chunk p p₂ s s₂ d d₂ r₂ → (r₁ ≡ r₂) × (p₁ ≡ p₂) × (s₁ ≡ s₂) × (d₁ ≡ d₂)
 one-chunked run held chunk p p₁ p₂ s s₁ s₂ d d₁ d₂ r₁ r₂ x y =
-    let u = one-bites (x .taken) (y .taken) in
+    let u = one-taking (x .taken) (y .taken) in
     let w = one-written (y .bytes) d d₁ d₂ (r₁ .written) (r₂ .written) (rw (u .bytes) at (x .written)) (y .written) in
     let held : r₁ .held ≡ r₂ .held = x .counts ∙ ap length (u .held) ∙ sym (y .counts) in
     let used : r₁ .used ≡ r₂ .used = omega (arith, x .used, y .used, ap length (u .left)) in

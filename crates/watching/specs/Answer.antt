@@ -1,5 +1,5 @@
--- What a line does to a run, by the promises of reading, opening, ticking and adding; and what is written for it.
--- Assumes nothing: these are definitions.
+-- What a line does to a run, by the promises of reading, opening, ticking and adding; and what is written for it (docs/RULES.md, "The watch
+-- program"). Assumes nothing: these are definitions.
 use Prim.Native.Nat.{ℕ, _<_}
 use mathlib.Core.Path.{_≡_}
 use mathlib.Core.List.{List, []}
@@ -9,7 +9,6 @@ use Rattle.refusal.specs.Table.{numberOf}
 use Rattle.text.specs.declared.Reading.the-variants as Reads
 use Rattle.text.specs.Answer.{ReadingOf}
 use Rattle.watcher.specs.declared.Opening.the-variants as Opens
-use Rattle.watcher.specs.declared.Ticking.{Ticking}
 use Rattle.watcher.specs.declared.Ticking.the-variants as Ticks
 use Rattle.watcher.specs.Answer.{OpenAnswers, TickAnswers}
 use Rattle.tally.specs.declared.Tally.{Tally}
@@ -22,68 +21,47 @@ use Rattle.line.specs.Lines.{windowLine, refusedLine}
 use Rattle.line.specs.Answer.{LineReadOf, IsWritten}
 use Rattle.watching.specs.declared.Run.{Run}
 use Rattle.watching.specs.declared.Taken.{Taken}
-use Rattle.watching.specs.declared.Beginning.{Beginning}
-use Rattle.watching.specs.declared.Beginning.the-variants as Begins
-use Rattle.watching.specs.declared.Stepping.{Stepping}
-use Rattle.watching.specs.declared.Stepping.the-variants as Steps
-use Rattle.watching.specs.Runs.{nextLine, tallyOf, wentOn, ended}
+use Rattle.watching.specs.declared.LineAnswer.{LineAnswer}
+use Rattle.watching.specs.declared.LineAnswer.the-variants.{Nothing, Window, Refused}
+use Rattle.watching.specs.Runs.{nextLine, nextRun, ended}
 
 -- room for the longest body
 abbrev pub noBody : List ℕ
 noBody = replicate 315 0
 
--- line 1 is read as a pattern's text into a body, and the state is opened with that
-pub record IsBegun (l s s′ : List ℕ) : Type 0 where
-  pub body : List ℕ
-  pub bytes : ℕ
-  pub read : ReadingOf l noBody body (Reads.Read bytes)
-  pub opened : OpenAnswers (take bytes body) s s′ Opens.Opened
+-- line 1 is read as a pattern's text into a body, and the state is opened with that; the line is refused as reading or opening is
+pub data FirstLine (l s s′ : List ℕ) : LineAnswer → Type 0 where
+  unread : {body : List ℕ} {r : Refusal} → ReadingOf l noBody body (Reads.Refused r) → s′ ≡ s → FirstLine l s s′ (Refused r)
+  unopened : {body : List ℕ} {bytes : ℕ} {r : Refusal} → ReadingOf l noBody body (Reads.Read bytes)
+      → OpenAnswers (take bytes body) s s′ (Opens.Refused r) → FirstLine l s s′ (Refused r)
+  opened : {body : List ℕ} {bytes : ℕ} → ReadingOf l noBody body (Reads.Read bytes) → OpenAnswers (take bytes body) s s′ Opens.Opened
+      → FirstLine l s s′ Nothing
 
--- line 1 is refused as its text is; or, where that is read, as opening is
-pub data BeginRefused (l s : List ℕ) (r : Refusal) : Type 0 where
-  unread : {body : List ℕ} → ReadingOf l noBody body (Reads.Refused r) → BeginRefused l s r
-  unopened : {body : List ℕ} {bytes : ℕ} → ReadingOf l noBody body (Reads.Read bytes) → OpenAnswers (take bytes body) s s (Opens.Refused r)
-      → BeginRefused l s r
-
--- the answer to line 1; a refusal leaves the state
-abbrev pub BeginAnswers : List ℕ → List ℕ → List ℕ → Beginning → Type 0
-BeginAnswers l s s′ Begins.Begun = IsBegun l s s′
-BeginAnswers l s s′ (Begins.Refused r) = BeginRefused l s r × (s′ ≡ s)
-
--- a further line is read as a tick with its events, and the state takes it
-pub record IsStepped (l s s′ : List ℕ) (t : ℕ) (answer : Ticking) : Type 0 where
-  pub events : ℕ
-  pub read : LineReadOf l (Lines.Tick t events)
-  pub ticked : TickAnswers s s′ t events answer
-
--- it is refused as reading it is (14, then 10); or, where it is read, as the tick is (11)
-pub data StepRefused (l s : List ℕ) (r : Refusal) : Type 0 where
-  unread : LineReadOf l (Lines.Refused r) → StepRefused l s r
-  unticked : {t : ℕ} → IsStepped l s s t (Ticks.Refused r) → StepRefused l s r
-
--- the answer to a further line; a refusal leaves the state
-abbrev pub StepAnswers : List ℕ → List ℕ → List ℕ → Stepping → Type 0
-StepAnswers l s s′ (Steps.Window start t) = IsStepped l s s′ t (Ticks.Window start)
-StepAnswers l s s′ Steps.Nothing = (t : ℕ) × IsStepped l s s′ t Ticks.Nothing
-StepAnswers l s s′ (Steps.Refused r) = StepRefused l s r × (s′ ≡ s)
+-- a further line is read as a tick t with the events w, and the state takes that; the line is refused as reading (14, then 10) or the tick (11) is
+pub data FurtherLine (l s s′ : List ℕ) : LineAnswer → Type 0 where
+  unread : {r : Refusal} → LineReadOf l (Lines.Refused r) → s′ ≡ s → FurtherLine l s s′ (Refused r)
+  unticked : {t w : ℕ} {r : Refusal} → LineReadOf l (Lines.Tick t w) → TickAnswers s s′ t w (Ticks.Refused r) → FurtherLine l s s′ (Refused r)
+  window : {t w start : ℕ} → LineReadOf l (Lines.Tick t w) → TickAnswers s s′ t w (Ticks.Window start) → FurtherLine l s s′ (Window start t)
+  nothing : {t w : ℕ} → LineReadOf l (Lines.Tick t w) → TickAnswers s s′ t w Ticks.Nothing → FurtherLine l s s′ Nothing
 
 -- `refused line L code R`, where L is the line after those taken
 abbrev pub refusing : Run → Refusal → List ℕ
 refusing run r = refusedLine (nextLine (run .line)) (numberOf r)
 
--- a window by the answer to adding it to the tally: the run after it, and the bytes written
-pub data Windowed (run : Run) (start t : ℕ) : Run → List ℕ → Type 0 where
-  added : {tally : Tally} → addedTo (tallyOf run) start t ≡ Adds.Added tally → Windowed run start t (wentOn run tally) (windowLine start t)
-  full : {r : Refusal} → addedTo (tallyOf run) start t ≡ Adds.Refused r → Windowed run start t (ended run) (refusing run r)
+-- an answer acted on: the run after it, and the bytes written. A window is added to the tally, and refused if that is full
+pub data Acted (run : Run) : LineAnswer → Run → List ℕ → Type 0 where
+  silent : Acted run Nothing (nextRun run (run .tally)) []
+  added : {start t : ℕ} {tally : Tally} → addedTo (run .tally) start t ≡ Adds.Added tally
+      → Acted run (Window start t) (nextRun run tally) (windowLine start t)
+  full : {start t : ℕ} {r : Refusal} → addedTo (run .tally) start t ≡ Adds.Refused r → Acted run (Window start t) (ended run) (refusing run r)
+  refused : {r : Refusal} → Acted run (Refused r) (ended run) (refusing run r)
 
--- a line l by its answer, where the state s becomes s′: the run after it, and the bytes written
+-- a line l taken, where the state s becomes s′: the run after it, and the bytes written. After a refusal nothing is done
 pub data LineTaken (run : Run) (l s s′ : List ℕ) : Run → List ℕ → Type 0 where
-  begun : run .phase ≡ 0 → BeginAnswers l s s′ Begins.Begun → LineTaken run l s s′ (wentOn run (tallyOf run)) []
-  unbegun : {r : Refusal} → run .phase ≡ 0 → BeginAnswers l s s′ (Begins.Refused r) → LineTaken run l s s′ (ended run) (refusing run r)
-  window : {start t : ℕ} {run′ : Run} {bytes : List ℕ} → run .phase ≡ 1 → StepAnswers l s s′ (Steps.Window start t) → Windowed run start t run′ bytes
+  first : {a : LineAnswer} {run′ : Run} {bytes : List ℕ} → run .phase ≡ 0 → FirstLine l s s′ a → Acted run a run′ bytes
       → LineTaken run l s s′ run′ bytes
-  nothing : run .phase ≡ 1 → StepAnswers l s s′ Steps.Nothing → LineTaken run l s s′ (wentOn run (tallyOf run)) []
-  refused : {r : Refusal} → run .phase ≡ 1 → StepAnswers l s s′ (Steps.Refused r) → LineTaken run l s s′ (ended run) (refusing run r)
+  further : {a : LineAnswer} {run′ : Run} {bytes : List ℕ} → run .phase ≡ 1 → FurtherLine l s s′ a → Acted run a run′ bytes
+      → LineTaken run l s s′ run′ bytes
   after : 1 < run .phase → s′ ≡ s → LineTaken run l s s′ run []
 
 -- the promise of taking a line: its bytes are written to d, which holds d′ afterwards
@@ -92,16 +70,13 @@ pub record IsTaken (run : Run) (l s s′ d d′ : List ℕ) (taken : Taken) : Ty
   pub line : LineTaken run l s s′ (taken .run) bytes
   pub written : IsWritten bytes d d′ (taken .written)
 
--- inner devices: a window taken, a refusal written, and the bytes that writing tells
-pub record IsWindowed (run : Run) (start t : ℕ) (d d′ : List ℕ) (taken : Taken) : Type 0 where
+-- the promise of acting on an answer
+pub record IsActed (run : Run) (a : LineAnswer) (d d′ : List ℕ) (taken : Taken) : Type 0 where
   pub bytes : List ℕ
-  pub line : Windowed run start t (taken .run) bytes
+  pub acted : Acted run a (taken .run) bytes
   pub written : IsWritten bytes d d′ (taken .written)
 
-pub record IsRefused (run : Run) (r : Refusal) (d d′ : List ℕ) (taken : Taken) : Type 0 where
-  pub over : taken .run ≡ ended run
-  pub written : IsWritten (refusing run r) d d′ (taken .written)
-
+-- the bytes written, none if there was no room
 abbrev pub bytesIn : LineWritten → ℕ
 bytesIn (Writes.Written n) = n
 bytesIn (Writes.Refused r) = 0

@@ -1,9 +1,10 @@
--- What is claimed of a whole input: demand 3, on what is written; and that the promises leave no choice. Assumes nothing: these are definitions.
+-- What is claimed of a whole input: that the output is what the rules ask for (docs/RULES.md, "The watch program"); and that the promises leave no
+-- choice. Assumes nothing: these are definitions.
 use Prim.Native.Nat.{ℕ, suc, zero, _≤_}
 use mathlib.Core.Path.{_≡_}
 use mathlib.Core.List.{List, [], _∷_, _++_}
 use lib.ListN.{length, take}
-use Rattle.rules.specs.Limits.{mostEntries}
+use Rattle.rules.specs.Limits.{mostEntries, mostText}
 use Rattle.rules.specs.Pattern.{Pattern, size}
 use Rattle.rules.specs.Instances.{Has, Latest}
 use Rattle.rules.specs.History.{Tick, Rising, recordOf}
@@ -51,8 +52,8 @@ pub record Agreed (p : List ℕ) (ls : List (List ℕ)) (bytes : List ℕ) (run 
   pub windows : List Window
   pub reports : Reports pattern [] ticks windows
   pub written : bytes ≡ windowLines windows
-  pub counted : run .windows ≡ length windows
-  pub summed : run .ticks ≡ span windows
+  pub counted : run .tally .windows ≡ length windows
+  pub summed : run .tally .ticks ≡ span windows
 
 -- as long as no line is refused, what is written is what the rules ask for
 abbrev pub LinesAgree : Type 0
@@ -65,11 +66,45 @@ OutputAgrees =
     (s input output p : List ℕ) (ls : List (List ℕ)) (x : Prints s input output) → linesOf input ≡ p ∷ ls → x .run .phase ≡ 1
     → (a : Agreed p ls (x .bytes) (x .run)) × (output ≡ windowLines (a .windows) ++ tallyLine (length (a .windows)) (span (a .windows)))
 
+-- line 1 is the text of a pattern within the limits, and each other line that of a tick in range; the ticks rise
+pub record Sound (p : List ℕ) (ls : List (List ℕ)) : Type 0 where
+  pub pattern : Pattern
+  pub text : TextOf p pattern
+  pub short : length p ≤ mostText
+  pub few : size pattern ≤ mostEntries
+  pub ticks : List Tick
+  pub lines : AreTicks ls ticks
+  pub rising : Rising 0 ticks
+
+-- such lines are not refused, where there is room for the state
+abbrev pub SoundAccepted : Type 0
+SoundAccepted =
+    (s s′ p bytes : List ℕ) (ls : List (List ℕ)) (run : Run) (x : Sound p ls) → roomOf (x .pattern) ≤ length s
+    → Takes fresh s (p ∷ ls) run s′ bytes → run .phase ≡ 1
+
+-- the windows that the rules ask for, each on a line, and their tally
+pub record Ruled (p : List ℕ) (ls : List (List ℕ)) (x : Sound p ls) (output : List ℕ) : Type 0 where
+  pub windows : List Window
+  pub reports : Reports (x .pattern) [] (x .ticks) windows
+  pub written : output ≡ windowLines windows ++ tallyLine (length windows) (span windows)
+
+-- so these are the output for such an input
+abbrev pub SoundPrinted : Type 0
+SoundPrinted =
+    (s input output p : List ℕ) (ls : List (List ℕ)) (x : Sound p ls) → roomOf (x .pattern) ≤ length s → Prints s input output → linesOf input ≡ p ∷ ls
+    → Ruled p ls x output
+
 -- however an input is cut into chunks, and whatever room each finds, what is written for it and at its end is what its lines print
 abbrev pub InputPrints : Type 0
 InputPrints =
     (s s₁ s′ p p′ d d′ input bytes : List ℕ) (run : Run) (held n : ℕ) → Given fresh 0 p s input run held p′ s₁ bytes
     → FinishAnswers run held p′ s₁ s′ d d′ (Finished n) → Prints s input (bytes ++ take n d′)
+
+-- what is written for an input stands first in the output for every input that begins with it
+abbrev pub OutputBegins : Type 0
+OutputBegins =
+    (s s′ p p′ input later bytes output : List ℕ) (run : Run) (held : ℕ) → Given fresh 0 p s input run held p′ s′ bytes → Prints s (input ++ later) output
+    → (rest : List ℕ) × (output ≡ bytes ++ rest)
 
 -- no second answer, held bytes, state and output meet the promise of taking a chunk
 abbrev pub OneChunk : Type 0

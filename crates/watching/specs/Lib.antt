@@ -2,7 +2,6 @@ pub mod Runs
 pub mod Answer
 pub mod Whole
 pub mod Chunk
-pub mod Going
+pub mod Progress
 pub mod Batch
 pub mod Claim
-pub mod Sound

@@ -29,7 +29,7 @@ pub data Takes : Run → List ℕ → List (List ℕ) → Run → List ℕ → L
   more : {run run₁ run′ : Run} {l s s₁ s′ bytes rest : List ℕ} {ls : List (List ℕ)} → LineTaken run l s s₁ run₁ bytes
       → Takes run₁ s₁ ls run′ s′ rest → Takes run s (l ∷ ls) run′ s′ (bytes ++ rest)
 
--- the output for an input, where the words s are lent for the state: what its lines write, and then the tally of a run that no refusal ended
+-- the output for an input, where s has the words for the state: what its lines write, and then the tally, if no refusal ended the run
 pub record Prints (s input output : List ℕ) : Type 0 where
   pub run : Run
   pub state : List ℕ

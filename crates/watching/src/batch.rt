@@ -1,4 +1,4 @@
-// Ticks taken many at once: their lines are read, the state is fed with them, and the windows are told.
+// Ticks taken many at once: their lines are read, the state is fed with them, and the windows are reported.
 use super::Chunked;
 use super::Run;
 use super::Taken;
@@ -9,20 +9,20 @@ ghost use mathlib.Core.Bool.{true};
 ghost use mathlib.Core.List.{[]};
 ghost use Prim.Native.Nat.{_+_, _≤_};
 ghost use lib.ListN.{length};
-ghost use Rattle.watching.specs.Going.{Goes, GoesFrom};
-ghost use Rattle.watching.specs.Batch.{mostTicks, mostTold, FoundAt, MayEnd, Gathers};
-ghost use Rattle.watching.specs.Batch.{FarFromFull, TellReady, IsTold, TellAllReady, IsAllTold};
+ghost use Rattle.watching.specs.Progress.{Progress, Ready};
+ghost use Rattle.watching.specs.Batch.{mostTicks, mostReported, FoundAt, MayEnd, Gathers};
+ghost use Rattle.watching.specs.Batch.{FarFromFull, ReportReady, IsReported, ReportAllReady, IsAllReported};
 
-// So many lines are read at once.
+// The number of lines read at once.
 const MOST_TICKS: usize = 64;
 
 // The bytes that they may write.
-const MOST_TOLD: usize = 3840;
+const MOST_REPORTED: usize = 3840;
 
-// A tally below this in both its numbers is not full after so many lines.
+// A tally with both numbers below this has room for the windows of all these lines.
 const FAR: u64 = 0x8000_0000_0000_0000;
 
-// A line found: the tick, its events, and the place of the line feed; or none that is a tick's.
+// A line that was found: its tick, its events and the place of its line feed; or that it is not a tick's.
 pub(crate) enum Found {
     Tick(u64, u32, usize),
     Other,
@@ -41,8 +41,8 @@ pub(crate) fn take_batches(
     state: &mut [u64],
     out: &mut [u8],
 ) -> Chunked
-    requires { ⌜ GoesFrom (now input) (now out) first ⌝ }
-    ensures { λ r. ⌜ Goes (first .run) [] (first .used) (first .written) (now (input .entry)) (now (state .entry)) (now (state .exit))
+    requires { ⌜ Ready (now input) (now out) first ⌝ }
+    ensures { λ r. ⌜ Progress (first .run) [] (first .used) (first .written) (now (input .entry)) (now (state .entry)) (now (state .exit))
         (now (out .entry)) (now (out .exit)) r ⌝ }
 {
     let mut p = first;
@@ -58,12 +58,12 @@ pub(crate) fn take_batches(
 
 // Takes the lines that are read at once; none if there may be no room for what they write, or the tally may be full after them.
 fn take_batch(p: Chunked, input: &[u8], state: &mut [u64], out: &mut [u8]) -> Chunked
-    requires { ⌜ GoesFrom (now input) (now out) p ⌝ }
-    ensures { λ r. ⌜ Goes (p .run) [] (p .used) (p .written) (now (input .entry)) (now (state .entry)) (now (state .exit))
+    requires { ⌜ Ready (now input) (now out) p ⌝ }
+    ensures { λ r. ⌜ Progress (p .run) [] (p .used) (p .written) (now (input .entry)) (now (state .entry)) (now (state .exit))
         (now (out .entry)) (now (out .exit)) r ⌝ }
 {
     let run = p.run;
-    if out.len() - p.written < MOST_TOLD {
+    if out.len() - p.written < MOST_REPORTED {
         return p;
     }
     if far_from_full(run) {
@@ -79,16 +79,17 @@ fn far_from_full(run: Run) -> bool
     if run.phase != 1 {
         return false;
     }
-    if run.windows < FAR {
-        return run.ticks < FAR;
+    let tally = run.tally;
+    if tally.windows < FAR {
+        return tally.ticks < FAR;
     }
     false
 }
 
-// Reads the lines, feeds the state with their ticks, and tells the windows; where feeding is refused nothing is done.
+// Reads the lines, feeds the state with their ticks, and reports the windows; if feeding is refused, nothing is done.
 fn feed_batch(p: Chunked, input: &[u8], state: &mut [u64], out: &mut [u8]) -> Chunked
-    requires { ⌜ GoesFrom (now input) (now out) p × FarFromFull (p .run) × (p .written + mostTold ≤ length (now out)) ⌝ }
-    ensures { λ r. ⌜ Goes (p .run) [] (p .used) (p .written) (now (input .entry)) (now (state .entry)) (now (state .exit))
+    requires { ⌜ Ready (now input) (now out) p × FarFromFull (p .run) × (p .written + mostReported ≤ length (now out)) ⌝ }
+    ensures { λ r. ⌜ Progress (p .run) [] (p .used) (p .written) (now (input .entry)) (now (state .entry)) (now (state .exit))
         (now (out .entry)) (now (out .exit)) r ⌝ }
 {
     let mut ticks = [0u64; 64];
@@ -101,19 +102,19 @@ fn feed_batch(p: Chunked, input: &[u8], state: &mut [u64], out: &mut [u8]) -> Ch
         Feeding::Fed => {
             let run = p.run;
             let at = p.written;
-            let told = tell_all(run, &ticks[0..n], &answers, &mut out[at..]);
-            let later = told.run;
+            let reported = report_all(run, &ticks[0..n], &answers, &mut out[at..]);
+            let later = reported.run;
             Chunked {
                 run: later,
                 held: 0,
                 used: lines.used,
-                written: at + told.written,
+                written: at + reported.written,
             }
         }
     }
 }
 
-// Reads lines from a place on, as long as they are ticks'.
+// Reads lines from a place on, as long as each is the line of a tick.
 fn read_lines(input: &[u8], from: usize, ticks: &mut [u64], events: &mut [u32]) -> Gathered
     requires { ⌜ (from ≤ length (now input)) × (length (now ticks) ≡ mostTicks) × (length (now events) ≡ mostTicks) ⌝ }
     ensures { λ r. ⌜ Gathers (now (input .entry)) from (now (ticks .exit)) (now (events .exit)) r ⌝ }
@@ -138,7 +139,7 @@ fn read_lines(input: &[u8], from: usize, ticks: &mut [u64], events: &mut [u32]) 
     Gathered { count: n, used: at }
 }
 
-// The line from a place on. Its end is looked for where the shortest line before would have it: if a tick is read up to there, that is the end.
+// The line from a place on. Its end is first looked for no earlier than the shortest line so far would end; if a tick is read up to there, that is it.
 fn find_line(input: &[u8], at: usize, shortest: usize) -> Found
     requires { ⌜ at ≤ length (now input) ⌝ }
     ensures { λ r. ⌜ FoundAt (now (input .entry)) at r ⌝ }
@@ -170,18 +171,18 @@ fn line_to(input: &[u8], from: usize, end: usize) -> Found
     }
 }
 
-// Tells ticks by their answers, one after the other.
-fn tell_all(run: Run, ticks: &[u64], answers: &[u64], out: &mut [u8]) -> Taken
-    requires { ⌜ TellAllReady run (now ticks) (now answers) (now out) ⌝ }
-    ensures { λ r. ⌜ IsAllTold run (now (ticks .entry)) (now (answers .entry)) (now (out .entry)) (now (out .exit)) r ⌝ }
+// Reports ticks by their answers, one after the other.
+fn report_all(run: Run, ticks: &[u64], answers: &[u64], out: &mut [u8]) -> Taken
+    requires { ⌜ ReportAllReady run (now ticks) (now answers) (now out) ⌝ }
+    ensures { λ r. ⌜ IsAllReported run (now (ticks .entry)) (now (answers .entry)) (now (out .entry)) (now (out .exit)) r ⌝ }
 {
     let mut later = run;
     let mut written: usize = 0;
     let mut i: usize = 0;
     while i < ticks.len() {
-        let told = tell(later, ticks[i], answers[i], &mut out[written..]);
-        later = told.run;
-        written += told.written;
+        let reported = report(later, ticks[i], answers[i], &mut out[written..]);
+        later = reported.run;
+        written += reported.written;
         i += 1;
     }
     Taken {
@@ -190,14 +191,14 @@ fn tell_all(run: Run, ticks: &[u64], answers: &[u64], out: &mut [u8]) -> Taken
     }
 }
 
-// Tells a tick by its answer: 0, or start + 1 of the window that ends there.
-fn tell(run: Run, t: u64, answer: u64, out: &mut [u8]) -> Taken
-    requires { ⌜ TellReady run t answer (now out) ⌝ }
-    ensures { λ r. ⌜ IsTold run t answer (now (out .entry)) (now (out .exit)) r ⌝ }
+// Reports a tick by its answer: 0, or start + 1 of the window that ends there.
+fn report(run: Run, t: u64, answer: u64, out: &mut [u8]) -> Taken
+    requires { ⌜ ReportReady run t answer (now out) ⌝ }
+    ensures { λ r. ⌜ IsReported run t answer (now (out .entry)) (now (out .exit)) r ⌝ }
 {
     if answer == 0 {
         return Taken {
-            run: crate::going(run),
+            run: crate::next_run(run),
             written: 0,
         };
     }

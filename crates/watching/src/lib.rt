@@ -4,6 +4,8 @@ mod pieces;
 
 use line::LineRead;
 use line::LineWritten;
+use line::MOST_TALLY;
+use line::MOST_WRITTEN;
 use refusal::Refusal;
 use tally::Adding;
 use tally::Tally;
@@ -13,27 +15,24 @@ use watcher::Ticking;
 ghost use mathlib.Core.Path.{_≡_};
 ghost use Prim.Native.Nat.{_≤_};
 ghost use lib.ListN.{length};
-ghost use Rattle.line.specs.Lines.{mostWritten};
+ghost use Rattle.line.specs.Lines.{mostWritten, mostTally};
 ghost use Rattle.line.specs.Answer.{IsWritten};
-ghost use Rattle.watching.specs.Runs.{fresh, nextLine, tallyOf, wentOn, finishLine};
-ghost use Rattle.watching.specs.Answer.{BeginAnswers, StepAnswers, IsTaken, IsRefused, IsWindowed, bytesIn};
+ghost use Rattle.watching.specs.Runs.{fresh, nextLine, nextRun, finishLine};
+ghost use Rattle.watching.specs.Answer.{FirstLine, FurtherLine, IsTaken, IsActed, bytesIn};
+ghost use Rattle.watching.specs.declared.LineAnswer.the-variants.{Window, Refused};
 ghost use Rattle.watching.specs.Chunk.{ChunkAnswers, FinishAnswers};
 
-// The bytes that a line may write.
-pub(crate) const MOST_WRITTEN: usize = 60;
-
-// So many bytes of a line tell that it is too long.
+// A line with this many bytes is too long, whatever follows: no more of it is held.
 pub(crate) const MOST_HELD: usize = 1025;
 
-// The bytes that finishing may write: two lines.
-const MOST_FINISH: usize = 120;
+// The bytes that finishing may write: a line's, and the tally's.
+const MOST_FINISH: usize = MOST_WRITTEN + MOST_TALLY;
 
 // How far a run is: phase 0 before line 1, 1 running, 2 ended by a refusal; the lines taken; and the tally.
 pub struct Run {
     pub phase: u64,
     pub line: u64,
-    pub windows: u64,
-    pub ticks: u64,
+    pub tally: Tally,
 }
 
 // The run after a line, and the bytes written for it.
@@ -62,16 +61,10 @@ pub enum Finishing {
     Refused(Refusal),
 }
 
-// What line 1 answers.
-pub(crate) enum Beginning {
-    Begun,
-    Refused(Refusal),
-}
-
-// What a further line answers: a window by its start and end, or none.
-pub(crate) enum Stepping {
-    Window(u64, u64),
+// What a line answers: nothing to report, a window by its start and end, or why the line is refused.
+pub(crate) enum LineAnswer {
     Nothing,
+    Window(u64, u64),
     Refused(Refusal),
 }
 
@@ -82,8 +75,10 @@ pub fn start() -> Run
     Run {
         phase: 0,
         line: 0,
-        windows: 0,
-        ticks: 0,
+        tally: Tally {
+            windows: 0,
+            ticks: 0,
+        },
     }
 }
 
@@ -118,16 +113,18 @@ pub fn finish(run: Run, held: usize, part: &[u8], state: &mut [u64], out: &mut [
     Finishing::Finished(from + finish_line(later, &mut out[from..]))
 }
 
-// Takes the next line: line 1 opens the state, a further one is a tick. What is to be said is written to `out`; after a refusal that is nothing.
+// Takes the next line: line 1 opens the state, a further one is a tick. What there is to report is written to `out`; after a refusal that is nothing.
 pub(crate) fn take_line(run: Run, line: &[u8], state: &mut [u64], out: &mut [u8]) -> Taken
     requires { ⌜ mostWritten ≤ length (now out) ⌝ }
     ensures { λ r. ⌜ IsTaken run (now (line .entry)) (now (state .entry)) (now (state .exit)) (now (out .entry)) (now (out .exit)) r ⌝ }
 {
     if run.phase == 0 {
-        return take_first(run, line, state, out);
+        let answer = open_line(line, state);
+        return act(run, answer, out);
     }
     if run.phase == 1 {
-        return take_tick(run, line, state, out);
+        let answer = tick_line(line, state);
+        return act(run, answer, out);
     }
     Taken {
         run: run,
@@ -137,121 +134,106 @@ pub(crate) fn take_line(run: Run, line: &[u8], state: &mut [u64], out: &mut [u8]
 
 // Writes the tally of a run that no refusal ended.
 fn finish_line(run: Run, out: &mut [u8]) -> usize
-    requires { ⌜ mostWritten ≤ length (now out) ⌝ }
+    requires { ⌜ mostTally ≤ length (now out) ⌝ }
     ensures { λ r. ⌜ IsWritten (finishLine run) (now (out .entry)) (now (out .exit)) r ⌝ }
 {
     if run.phase != 1 {
         return 0;
     }
-    bytes_in(line::write_tally(run.windows, run.ticks, out))
-}
-
-fn take_first(run: Run, line: &[u8], state: &mut [u64], out: &mut [u8]) -> Taken
-    requires { ⌜ (run .phase ≡ 0) × (mostWritten ≤ length (now out)) ⌝ }
-    ensures { λ r. ⌜ IsTaken run (now (line .entry)) (now (state .entry)) (now (state .exit)) (now (out .entry)) (now (out .exit)) r ⌝ }
-{
-    match begin(line, state) {
-        Beginning::Begun => Taken {
-            run: going(run),
-            written: 0,
-        },
-        Beginning::Refused(r) => refused(run, r, out),
-    }
-}
-
-fn take_tick(run: Run, line: &[u8], state: &mut [u64], out: &mut [u8]) -> Taken
-    requires { ⌜ (run .phase ≡ 1) × (mostWritten ≤ length (now out)) ⌝ }
-    ensures { λ r. ⌜ IsTaken run (now (line .entry)) (now (state .entry)) (now (state .exit)) (now (out .entry)) (now (out .exit)) r ⌝ }
-{
-    match step(line, state) {
-        Stepping::Window(start, end) => take_window(run, start, end, out),
-        Stepping::Nothing => Taken {
-            run: going(run),
-            written: 0,
-        },
-        Stepping::Refused(r) => refused(run, r, out),
-    }
+    let tally = run.tally;
+    bytes_in(line::write_tally(tally.windows, tally.ticks, out))
 }
 
 // Reads line 1 as a pattern, and opens the state for it.
-fn begin(text: &[u8], state: &mut [u64]) -> Beginning
-    ensures { λ r. ⌜ BeginAnswers (now (text .entry)) (now (state .entry)) (now (state .exit)) r ⌝ }
+fn open_line(line: &[u8], state: &mut [u64]) -> LineAnswer
+    ensures { λ r. ⌜ FirstLine (now (line .entry)) (now (state .entry)) (now (state .exit)) r ⌝ }
 {
     let mut body = [0u8; 315];
-    let reading = text::read_pattern(text, &mut body);
+    let reading = text::read_pattern(line, &mut body);
     match reading {
-        Reading::Refused(r) => Beginning::Refused(r),
+        Reading::Refused(r) => LineAnswer::Refused(r),
         Reading::Read(bytes) => match watcher::open(&body[0..bytes], state) {
-            Opening::Opened => Beginning::Begun,
-            Opening::Refused(r) => Beginning::Refused(r),
+            Opening::Opened => LineAnswer::Nothing,
+            Opening::Refused(r) => LineAnswer::Refused(r),
         },
     }
 }
 
-// Reads a line as a tick, and moves the state by it.
-fn step(line: &[u8], state: &mut [u64]) -> Stepping
-    ensures { λ r. ⌜ StepAnswers (now (line .entry)) (now (state .entry)) (now (state .exit)) r ⌝ }
+// Reads a further line as a tick, and moves the state by it.
+fn tick_line(line: &[u8], state: &mut [u64]) -> LineAnswer
+    ensures { λ r. ⌜ FurtherLine (now (line .entry)) (now (state .entry)) (now (state .exit)) r ⌝ }
 {
     match line::read_tick(line) {
-        LineRead::Refused(r) => Stepping::Refused(r),
+        LineRead::Refused(r) => LineAnswer::Refused(r),
         LineRead::Tick(t, events) => match watcher::tick(state, t, events) {
-            Ticking::Window(start) => Stepping::Window(start, t),
-            Ticking::Nothing => Stepping::Nothing,
-            Ticking::Refused(r) => Stepping::Refused(r),
+            Ticking::Window(start) => LineAnswer::Window(start, t),
+            Ticking::Nothing => LineAnswer::Nothing,
+            Ticking::Refused(r) => LineAnswer::Refused(r),
         },
     }
 }
 
-// Adds a window to the tally and writes it.
+// Acts on an answer: the run after it, and what is written.
+fn act(run: Run, answer: LineAnswer, out: &mut [u8]) -> Taken
+    requires { ⌜ mostWritten ≤ length (now out) ⌝ }
+    ensures { λ r. ⌜ IsActed run answer (now (out .entry)) (now (out .exit)) r ⌝ }
+{
+    match answer {
+        LineAnswer::Nothing => Taken {
+            run: next_run(run),
+            written: 0,
+        },
+        LineAnswer::Window(start, end) => take_window(run, start, end, out),
+        LineAnswer::Refused(r) => refused(run, r, out),
+    }
+}
+
+// Adds a window to the tally, and writes its line.
 pub(crate) fn take_window(run: Run, start: u64, end: u64, out: &mut [u8]) -> Taken
     requires { ⌜ mostWritten ≤ length (now out) ⌝ }
-    ensures { λ r. ⌜ IsWindowed run start end (now (out .entry)) (now (out .exit)) r ⌝ }
+    ensures { λ r. ⌜ IsActed run (Window start end) (now (out .entry)) (now (out .exit)) r ⌝ }
 {
-    let tally = Tally {
-        windows: run.windows,
-        ticks: run.ticks,
-    };
+    let tally = run.tally;
     match tally::added(tally, start, end) {
         Adding::Refused(r) => refused(run, r, out),
         Adding::Added(more) => Taken {
             run: Run {
                 phase: 1,
                 line: next_line(run.line),
-                windows: more.windows,
-                ticks: more.ticks,
+                tally: more,
             },
             written: bytes_in(line::write_window(start, end, out)),
         },
     }
 }
 
-// A refusal is written, and ends the run.
+// Writes a refusal, which ends the run.
 fn refused(run: Run, r: Refusal, out: &mut [u8]) -> Taken
     requires { ⌜ mostWritten ≤ length (now out) ⌝ }
-    ensures { λ t. ⌜ IsRefused run r (now (out .entry)) (now (out .exit)) t ⌝ }
+    ensures { λ t. ⌜ IsActed run (Refused r) (now (out .entry)) (now (out .exit)) t ⌝ }
 {
+    let tally = run.tally;
     let number = next_line(run.line);
     let written = bytes_in(line::write_refused(number, refusal::number(r), out));
     Taken {
         run: Run {
             phase: 2,
             line: number,
-            windows: run.windows,
-            ticks: run.ticks,
+            tally: tally,
         },
         written: written,
     }
 }
 
-// The run goes on, with a line more.
-pub(crate) fn going(run: Run) -> Run
-    ensures { λ r. ⌜ r ≡ wentOn run (tallyOf run) ⌝ }
+// The run after a line that leaves the tally as it is.
+pub(crate) fn next_run(run: Run) -> Run
+    ensures { λ r. ⌜ r ≡ nextRun run (run .tally) ⌝ }
 {
+    let tally = run.tally;
     Run {
         phase: 1,
         line: next_line(run.line),
-        windows: run.windows,
-        ticks: run.ticks,
+        tally: tally,
     }
 }
 
@@ -265,6 +247,7 @@ fn next_line(line: u64) -> u64
     line
 }
 
+// The bytes written, none if there was no room.
 fn bytes_in(written: LineWritten) -> usize
     ensures { λ r. ⌜ r ≡ bytesIn written ⌝ }
 {

@@ -8,7 +8,7 @@ ghost use Prim.Native.Nat.{_+_, _-_, _≤_, _<_, min};
 ghost use lib.ListN.{length, take, drop};
 ghost use Rattle.line.specs.Lines.{mostWritten};
 ghost use Rattle.watching.specs.Chunk.{mostHeld, IsChunked};
-ghost use Rattle.watching.specs.Going.{lineLength, Appended, Goes, GoesFrom, GoesNext, GoesOn, JoinReady, HeldRest, LastTaken};
+ghost use Rattle.watching.specs.Progress.{lineLength, Appended, Progress, Ready, LineReady, LinesTaken, JoinReady, HeldRest, LastTaken};
 
 // Takes a chunk, where `part` has room for a line.
 pub(crate) fn take(
@@ -24,7 +24,7 @@ pub(crate) fn take(
         (now (out .entry)) (now (out .exit)) r ⌝ }
 {
     let kept = least(held, crate::MOST_HELD);
-    if out.len() < crate::MOST_WRITTEN {
+    if out.len() < line::MOST_WRITTEN {
         return Chunked {
             run: run,
             held: kept,
@@ -43,7 +43,7 @@ pub(crate) fn take(
     }
     let first = take_joined(run, kept, chunk, end, part, state, out);
     let lines = take_lines(first, chunk, state, out);
-    if out.len() - lines.written < crate::MOST_WRITTEN {
+    if out.len() - lines.written < line::MOST_WRITTEN {
         return lines;
     }
     hold_rest(lines, chunk, part)
@@ -83,7 +83,7 @@ fn take_joined(
     out: &mut [u8],
 ) -> Chunked
     requires { ⌜ JoinReady held (now chunk) end (now part) (now out) ⌝ }
-    ensures { λ r. ⌜ Goes run (take held (now (part .entry))) 0 0 (now (chunk .entry)) (now (state .entry)) (now (state .exit))
+    ensures { λ r. ⌜ Progress run (take held (now (part .entry))) 0 0 (now (chunk .entry)) (now (state .entry)) (now (state .exit))
         (now (out .entry)) (now (out .exit)) r ⌝ }
 {
     let mut line = [0u8; 1025];
@@ -101,8 +101,8 @@ fn take_joined(
 
 // Takes the lines that end in the input from a place on, as long as there is room for what a line may write: ticks many at once, the rest one by one.
 fn take_lines(first: Chunked, input: &[u8], state: &mut [u64], out: &mut [u8]) -> Chunked
-    requires { ⌜ GoesFrom (now input) (now out) first ⌝ }
-    ensures { λ r. ⌜ GoesOn (now (input .entry)) (now (state .entry)) (now (state .exit)) (now (out .entry)) (now (out .exit)) first r ⌝ }
+    requires { ⌜ Ready (now input) (now out) first ⌝ }
+    ensures { λ r. ⌜ LinesTaken (now (input .entry)) (now (state .entry)) (now (state .exit)) (now (out .entry)) (now (out .exit)) first r ⌝ }
 {
     let many = crate::batch::take_batches(first, input, state, out);
     take_each(many, input, state, out)
@@ -110,11 +110,11 @@ fn take_lines(first: Chunked, input: &[u8], state: &mut [u64], out: &mut [u8]) -
 
 // The same, one by one.
 fn take_each(first: Chunked, input: &[u8], state: &mut [u64], out: &mut [u8]) -> Chunked
-    requires { ⌜ GoesFrom (now input) (now out) first ⌝ }
-    ensures { λ r. ⌜ GoesOn (now (input .entry)) (now (state .entry)) (now (state .exit)) (now (out .entry)) (now (out .exit)) first r ⌝ }
+    requires { ⌜ Ready (now input) (now out) first ⌝ }
+    ensures { λ r. ⌜ LinesTaken (now (input .entry)) (now (state .entry)) (now (state .exit)) (now (out .entry)) (now (out .exit)) first r ⌝ }
 {
     let mut p = first;
-    while crate::MOST_WRITTEN <= out.len() - p.written {
+    while line::MOST_WRITTEN <= out.len() - p.written {
         let end = line_end(input, p.used);
         if end == input.len() {
             return p;
@@ -126,8 +126,8 @@ fn take_each(first: Chunked, input: &[u8], state: &mut [u64], out: &mut [u8]) ->
 
 // Takes the line that a line feed at `end` ends, and writes after what is written.
 fn take_next(p: Chunked, input: &[u8], end: usize, state: &mut [u64], out: &mut [u8]) -> Chunked
-    requires { ⌜ GoesNext (now input) (now out) end p ⌝ }
-    ensures { λ r. ⌜ Goes (p .run) [] (p .used) (p .written) (now (input .entry)) (now (state .entry)) (now (state .exit))
+    requires { ⌜ LineReady (now input) (now out) end p ⌝ }
+    ensures { λ r. ⌜ Progress (p .run) [] (p .used) (p .written) (now (input .entry)) (now (state .entry)) (now (state .exit))
         (now (out .entry)) (now (out .exit)) r × (r .used ≡ end + 1) ⌝ }
 {
     let from = p.used;

@@ -1,7 +1,7 @@
--- `watching::finish` meets its contract: the last line finds 60 bytes, and so does the tally after it. Assumes nothing.
+-- `watching::finish` meets its contract: there is room for the last line, and for the tally after it. Assumes nothing.
 use mathlib.Core.Path.{refl}
 use native.Mathlib.Omega.{arith}
-use Rattle.watching.proofs.Goings.{writes-within, writes-on, writes-length, writes-then, writes-whole}
+use Rattle.watching.proofs.Progress.{writes-within, writes-on, writes-length, writes-then, writes-whole}
 use borrow.Author.Needs.{needs}
 use Rattle.watching.proofs.finish.Statement.{statement}
 use Rattle.watching.proofs.finish.Tie as tie

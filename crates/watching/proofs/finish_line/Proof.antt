@@ -20,8 +20,8 @@ same-length c = search needs
 returns-2 : tie.Need-returns-2
 returns-2 c =
     let wrote = c .before .before .before in
-    let s = wrote .before .before .before .before .before in
-    is-finished (s .args .run) _ _ (s .pre) _ (wrote .write-tally .result) (wrote .before .before .if1 .left) (omega arith) (omega arith)
+    let s = wrote .before .before .before .before .before .before in
+    is-finished (s .args .run) _ _ _ (wrote .write-tally .result) (s .pre) (wrote .before .before .before .if1 .left) (omega arith) (omega arith)
     (wrote .write-tally .ensures) (c .bytes-in .ensures)
 
 pub finish-line-spec : {M : Type 1} → statement M

@@ -1,13 +1,15 @@
 -- `watching::take_line` meets its contract, by the phase of the run. Assumes nothing.
 use native.Mathlib.Omega.{arith}
-use mathlib.Core.Path.{refl}
-use Rattle.watching.proofs.Takings.{is-after}
+use Rattle.watching.proofs.Takings.{first-taken, further-taken, after-taken}
 use borrow.Author.Needs.{needs}
 use Rattle.watching.proofs.take_line.Statement.{statement}
 use Rattle.watching.proofs.take_line.Tie as tie
 
-take-first-requires : tie.Need-take-first-requires
-take-first-requires c κs = search needs
+open-line-requires : tie.Need-open-line-requires
+open-line-requires c κs = search needs
+
+act-requires : tie.Need-act-requires
+act-requires c κs = search needs
 
 same-length : tie.Need-same-length
 same-length c = search needs
@@ -16,10 +18,16 @@ same-length-2 : tie.Need-same-length-2
 same-length-2 c = search needs
 
 returns : tie.Need-returns
-returns c = search needs
+returns c =
+    let a = c .before .before in
+    let opens = a .before .before .before .before in
+    first-taken (opens .before .before .if1 .taken) (opens .open-line .ensures) (a .act .ensures)
 
-take-tick-requires : tie.Need-take-tick-requires
-take-tick-requires c κs = search needs
+tick-line-requires : tie.Need-tick-line-requires
+tick-line-requires c κs = search needs
+
+act-requires-2 : tie.Need-act-requires-2
+act-requires-2 c κs = search needs
 
 same-length-3 : tie.Need-same-length-3
 same-length-3 c = search needs
@@ -28,21 +36,25 @@ same-length-4 : tie.Need-same-length-4
 same-length-4 c = search needs
 
 returns-2 : tie.Need-returns-2
-returns-2 c = search needs
+returns-2 c =
+    let a = c .before .before in
+    let ticks = a .before .before .before .before in
+    further-taken (ticks .before .before .if2 .taken) (ticks .tick-line .ensures) (a .act2 .ensures)
 
 returns-3 : tie.Need-returns-3
-returns-3 c =
-    is-after _ _ _ _ _ (omega arith) refl
+returns-3 c = after-taken _ _ _ _ (omega arith)
 
 pub take-line-spec : {M : Type 1} → statement M
 take-line-spec =
     tie.close
     (tie.spec
-    take-first-requires
+    open-line-requires
+    act-requires
     same-length
     same-length-2
     returns
-    take-tick-requires
+    tick-line-requires
+    act-requires-2
     same-length-3
     same-length-4
     returns-2

@@ -32,8 +32,8 @@ returns : tie.Need-returns
 returns c =
     let known = c .before .before .before .before .before in
     let adds = known .before .before in
-    let s = adds .before .before in
-    is-full _ _ _ (s .pre) _ _ _ _ _ (adds .added .ensures) (known .r .given .1) (c .before .before .refused .ensures)
+    let s = adds .before .before .before in
+    is-full _ _ _ _ _ _ _ _ (adds .added .ensures) (known .r .given .1) (c .before .before .refused .ensures)
 
 same-length-2 : tie.Need-same-length-2
 same-length-2 c = search needs
@@ -44,7 +44,7 @@ returns-2 c =
     let next = wrote .before .before in
     let known = next .before .before in
     let adds = known .before .before in
-    let s = adds .before .before in
+    let s = adds .before .before .before in
     is-added _ _ _ (s .pre) _ _ _ _ _ _ (wrote .write-window .result) (s .fits .start .fits) (s .fits .end .fits) (adds .added .ensures)
     (known .more .given .1) (next .next-line .ensures) (wrote .write-window .ensures) (c .bytes-in .ensures)
 

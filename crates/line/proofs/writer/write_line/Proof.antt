@@ -4,7 +4,7 @@ use mathlib.Core.Path.{refl}
 use Prim.Native.Nat.{_≤_}
 use lib.ListN.{length, replicate}
 use denote.Ref.{now}
-use Rattle.line.specs.Lines.{mostDigits, mostWritten, decimal, numbersLine}
+use Rattle.line.specs.Lines.{mostDigits, mostTally, decimal, numbersLine}
 use Rattle.line.specs.Answer.RefusedWriting.{room}
 use Rattle.line.specs.Told.{Backward}
 use Rattle.line.proofs.Decimals.{decimal-fits}
@@ -27,7 +27,7 @@ digits-b c = decimal-fits _ (c .fits .b .fits)
 
 -- the whole line, part by part
 line-is : (c : tie.After-write-word2) → let a = start-of (c .before .before .before .before) .args in
-    Backward (replicate mostWritten 0) (c .write-word2 .last .0) mostWritten (c .write-word2 .result)
+    Backward (replicate mostTally 0) (c .write-word2 .last .0) mostTally (c .write-word2 .result)
     (numbersLine (now (a .one)) (a .a) (now (a .two)) (a .b))
 line-is c =
     let first = c .before .before in

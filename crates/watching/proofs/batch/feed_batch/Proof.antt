@@ -1,11 +1,11 @@
--- `watching::batch::feed_batch` meets its contract: the lines are read, fed and told. Assumes nothing.
+-- `watching::batch::feed_batch` meets its contract: the lines are read, fed and reported. Assumes nothing.
 use mathlib.Core.Path.{subst}
 use native.Mathlib.Omega.{arith}
 use lib.ListN.{length-take, length-drop}
 use Rattle.watcher.specs.Feed.{FeedAnswers}
 use Rattle.watching.proofs.Appending.{lent-rest}
-use Rattle.watching.proofs.Goings.{writes-on, goes-none}
-use Rattle.watching.proofs.Batches.{fed-ready, batch-goes}
+use Rattle.watching.proofs.Progress.{writes-on, no-progress}
+use Rattle.watching.proofs.Batches.{fed-ready, batch-progress}
 use borrow.Author.Needs.{needs}
 use Rattle.watching.proofs.batch.feed_batch.Statement.{statement}
 use Rattle.watching.proofs.batch.feed_batch.Tie as tie
@@ -49,29 +49,29 @@ enum-told c = search needs
 enum-told-2 : tie.Need-enum-told-2
 enum-told-2 c = search needs
 
-sub-tell-all : tie.Need-sub-tell-all
-sub-tell-all c = search needs
+sub-report-all : tie.Need-sub-report-all
+sub-report-all c = search needs
 
-part-tell-all-start : tie.Need-part-tell-all-start
-part-tell-all-start c = search needs
+part-report-all-start : tie.Need-part-report-all-start
+part-report-all-start c = search needs
 
-part-tell-all-end : tie.Need-part-tell-all-end
-part-tell-all-end c = search needs
+part-report-all-end : tie.Need-part-report-all-end
+part-report-all-end c = search needs
 
-slice-aggregate-tell-all : tie.Need-slice-aggregate-tell-all
-slice-aggregate-tell-all c = search needs
+slice-aggregate-report-all : tie.Need-slice-aggregate-report-all
+slice-aggregate-report-all c = search needs
 
-sub-tell-all-2 : tie.Need-sub-tell-all-2
-sub-tell-all-2 c = search needs
+sub-report-all-2 : tie.Need-sub-report-all-2
+sub-report-all-2 c = search needs
 
-part-tell-all-start-2 : tie.Need-part-tell-all-start-2
-part-tell-all-start-2 c = search needs
+part-report-all-start-2 : tie.Need-part-report-all-start-2
+part-report-all-start-2 c = search needs
 
-part-tell-all-end-2 : tie.Need-part-tell-all-end-2
-part-tell-all-end-2 c = search needs
+part-report-all-end-2 : tie.Need-part-report-all-end-2
+part-report-all-end-2 c = search needs
 
-tell-all-requires : tie.Need-tell-all-requires
-tell-all-requires c κs =
+report-all-requires : tie.Need-report-all-requires
+report-all-requires c κs =
     let m = c .before .before .before .before .before in
     let f = m .before .before .before .before .before in
     let g = f .before .before .before .before .before .before .before .before .before in
@@ -84,7 +84,7 @@ add-t36 : tie.Need-add-t36
 add-t36 c =
     let t = c .before .before .before .before in
     let s = t .before .before .before .before .before .before .before .before .before .before .before .before .before .before .before .before .before .before .before .before .before .before .before .before .before .before in
-    omega (arith, writes-on {d = s .args .out .now} (s .pre .0 .fits) (t .tell-all .ensures .written) .fits)
+    omega (arith, writes-on {d = s .args .out .now} (s .pre .0 .fits) (t .report-all .ensures .written) .fits)
 
 same-length : tie.Need-same-length
 same-length c = search needs
@@ -93,7 +93,7 @@ returns : tie.Need-returns
 returns c =
     let f = c .before .before .before .before .before in
     let left = subst (FeedAnswers _ _ _ _ _ _) (c .enum-told .given .1) (f .feed .ensures) in
-    rw (left .1) (goes-none (f .before .before .before .before .before .before .before .before .before .before .before .before .before .before .before .pre .0))
+    rw (left .1) (no-progress (f .before .before .before .before .before .before .before .before .before .before .before .before .before .before .before .pre .0))
 
 same-length-2 : tie.Need-same-length-2
 same-length-2 c = search needs
@@ -109,7 +109,7 @@ returns-2 c =
     let g = f .before .before .before .before .before .before .before .before .before in
     let s = g .before .before .before .before .before .before in
     let fed = subst (FeedAnswers _ _ _ _ _ _) (m .enum-told2 .given .1) (f .feed .ensures) in
-    batch-goes (s .pre .0) (s .pre .1) (s .pre .2) (g .read-lines .ensures) fed (t .tell-all .ensures)
+    batch-progress (s .pre .0) (s .pre .1) (s .pre .2) (g .read-lines .ensures) fed (t .report-all .ensures)
 
 pub feed-batch-spec : {M : Type 1} → statement M
 feed-batch-spec =
@@ -128,14 +128,14 @@ feed-batch-spec =
     feed-requires
     enum-told
     enum-told-2
-    sub-tell-all
-    part-tell-all-start
-    part-tell-all-end
-    slice-aggregate-tell-all
-    sub-tell-all-2
-    part-tell-all-start-2
-    part-tell-all-end-2
-    tell-all-requires
+    sub-report-all
+    part-report-all-start
+    part-report-all-end
+    slice-aggregate-report-all
+    sub-report-all-2
+    part-report-all-start-2
+    part-report-all-end-2
+    report-all-requires
     add-t36
     same-length
     returns

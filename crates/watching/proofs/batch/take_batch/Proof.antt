@@ -1,6 +1,6 @@
 -- `watching::batch::take_batch` meets its contract, by its tests. Assumes nothing.
 use native.Mathlib.Omega.{arith}
-use Rattle.watching.proofs.Goings.{goes-none}
+use Rattle.watching.proofs.Progress.{no-progress}
 use borrow.Author.Needs.{needs}
 use Rattle.watching.proofs.batch.take_batch.Statement.{statement}
 use Rattle.watching.proofs.batch.take_batch.Tie as tie
@@ -9,7 +9,7 @@ sub-if1 : tie.Need-sub-if1
 sub-if1 c = search needs
 
 returns : tie.Need-returns
-returns c = goes-none (c .before .before .before .before .before .before .pre)
+returns c = no-progress (c .before .before .before .before .before .before .pre)
 
 far-from-full-requires : tie.Need-far-from-full-requires
 far-from-full-requires c κs = search needs
@@ -32,7 +32,7 @@ returns-2 : tie.Need-returns-2
 returns-2 c = search needs
 
 returns-3 : tie.Need-returns-3
-returns-3 c = goes-none (c .before .before .before .before .before .before .before .before .pre)
+returns-3 c = no-progress (c .before .before .before .before .before .before .before .before .pre)
 
 pub take-batch-spec : {M : Type 1} → statement M
 take-batch-spec =

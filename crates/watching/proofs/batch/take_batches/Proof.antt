@@ -4,23 +4,23 @@ use mathlib.Core.Path.{_≡_, refl, _∙_}
 use mathlib.Core.List.{[]}
 use native.Mathlib.Omega.{arith}
 use lib.ListN.{length}
-use Rattle.watching.specs.Going.{Goes}
-use Rattle.watching.proofs.Goings.{writes-length, goes-none, goes-from, goes-then}
+use Rattle.watching.specs.Progress.{Progress}
+use Rattle.watching.proofs.Progress.{writes-length, no-progress, progress-ready, progress-then}
 use Rattle.watching.proofs.batch.take_batches.Statement.{statement}
 use Rattle.watching.proofs.batch.take_batches.Tie as tie
 
 abbrev Inv-loop : tie.InvT-loop
 Inv-loop input state₀ out₀ p₀ state out p =
-    Goes (p₀ .run) [] (p₀ .used) (p₀ .written) input state₀ state out₀ out p × (length state ≡ length state₀)
+    Progress (p₀ .run) [] (p₀ .used) (p₀ .written) input state₀ state out₀ out p × (length state ≡ length state₀)
 
 abbrev μ-loop : tie.MeasureT-loop
 μ-loop input state₀ out₀ p₀ state out p = length input - p .used
 
 loop-holds : tie.Need-loop-holds Inv-loop μ-loop
-loop-holds c = (goes-none (c .before .before .before .pre), refl)
+loop-holds c = (no-progress (c .before .before .before .pre), refl)
 
 take-batch-requires : tie.Need-take-batch-requires Inv-loop μ-loop
-take-batch-requires c κs = goes-from (c .before .before .before .before .loop .inv .0)
+take-batch-requires c κs = progress-ready (c .before .before .before .before .loop .inv .0)
 
 same-length : tie.Need-same-length Inv-loop μ-loop
 same-length c =
@@ -32,13 +32,13 @@ same-length-2 : tie.Need-same-length-2 Inv-loop μ-loop
 same-length-2 c =
     let b = c .before .before .before .before .before .before .before in
     let l = b .before .before .before .before .before in
-    writes-length (goes-then (l .loop .inv .0) (b .take-batch .ensures) .writes)
+    writes-length (progress-then (l .loop .inv .0) (b .take-batch .ensures) .writes)
 
 returns : tie.Need-returns Inv-loop μ-loop
 returns c =
     let b = c .before .before .before .before .before .before .before in
     let l = b .before .before .before .before .before in
-    goes-then (l .loop .inv .0) (b .take-batch .ensures)
+    progress-then (l .loop .inv .0) (b .take-batch .ensures)
 
 loop-less : tie.Need-loop-less Inv-loop μ-loop
 loop-less c = omega (arith, c .if2 .left, c .before .before .before .before .before .before .before .take-batch .ensures .inside)
@@ -47,7 +47,7 @@ loop-again : tie.Need-loop-again Inv-loop μ-loop
 loop-again c =
     let b = c .before .before .before .before .before .before .before in
     let l = b .before .before .before .before .before in
-    (goes-then (l .loop .inv .0) (b .take-batch .ensures), b .take-batch .kept .1 .1 .0 ∙ l .loop .inv .1)
+    (progress-then (l .loop .inv .0) (b .take-batch .ensures), b .take-batch .kept .1 .1 .0 ∙ l .loop .inv .1)
 
 same-length-3 : tie.Need-same-length-3 Inv-loop μ-loop
 same-length-3 c = c .before .before .loop .inv .1

@@ -1,4 +1,4 @@
--- `watching::pieces::hold_rest` meets its contract: the part lent is the rest of the chunk. Assumes nothing.
+-- `watching::pieces::hold_rest` meets its contract: the part passed on is the rest of the chunk. Assumes nothing.
 use mathlib.Core.Path.{refl}
 use Rattle.watching.proofs.Appending.{lent-rest}
 use borrow.Author.Needs.{needs}

@@ -2,8 +2,8 @@
 use native.Mathlib.Omega.{arith}
 use denote.Ref.{now}
 use lib.ListN.{take}
-use Rattle.watching.specs.Going.{Goes}
-use Rattle.watching.proofs.Goings.{writes-length, goes-then}
+use Rattle.watching.specs.Progress.{Progress}
+use Rattle.watching.proofs.Progress.{writes-length, progress-then}
 use Rattle.watching.proofs.Chunkings.{chunk-unroomed, chunk-unended, chunk-full, chunk-held}
 use borrow.Author.Needs.{needs}
 use Rattle.watching.proofs.pieces.take.Statement.{statement}
@@ -55,24 +55,24 @@ same-length-4 : tie.Need-same-length-4
 same-length-4 c = search needs
 
 -- the lines taken, from the beginning of the chunk
-lines-go : (c : tie.After-take-lines)
+lines-progress : (c : tie.After-take-lines)
     → let k = c .before .before .before .before .before .before .before .before .before .before .before .before .before .before in
     let a = k .before .before .before .before .before .args in
-    Goes (a .run) (take (k .least .result) (now (a .part))) 0 0 (now (a .chunk)) (now (a .state)) (c .take-lines .last .1 .1 .0) (now (a .out))
+    Progress (a .run) (take (k .least .result) (now (a .part))) 0 0 (now (a .chunk)) (now (a .state)) (c .take-lines .last .1 .1 .0) (now (a .out))
     (c .take-lines .last .1 .1 .1 .0) (c .take-lines .result)
-lines-go c = goes-then (c .before .before .before .before .before .before .before .take-joined .ensures) (c .take-lines .ensures .goes)
+lines-progress c = progress-then (c .before .before .before .before .before .before .before .take-joined .ensures) (c .take-lines .ensures .progress)
 
 returns-3 : tie.Need-returns-3
 returns-3 c =
     let l = c .before .before .before .before .before .before in
     let k = l .before .before .before .before .before .before .before .before .before .before .before .before .before .before in
-    chunk-full (k .least .ensures) (k .before .before .before .before .before .pre) (lines-go l) (omega (arith, c .if3 .taken, writes-length (lines-go l .writes)))
+    chunk-full (k .least .ensures) (k .before .before .before .before .before .pre) (lines-progress l) (omega (arith, c .if3 .taken, writes-length (lines-progress l .writes)))
 
 hold-rest-requires : tie.Need-hold-rest-requires
 hold-rest-requires c κs =
     let l = c .before .before .before .before .before .before .before in
     let s = l .before .before .before .before .before .before .before .before .before .before .before .before .before .before .before .before .before .before .before in
-    (l .take-lines .ensures .goes .inside, s .pre)
+    (l .take-lines .ensures .progress .inside, s .pre)
 
 same-length-5 : tie.Need-same-length-5
 same-length-5 c = search needs
@@ -90,9 +90,9 @@ returns-4 c =
     let f = l .before .before .before .before .before .before .before in
     let k = f .before .before .before .before .before .before .before in
     let left = h .before .before .if3 .left in
-    let long = writes-length (lines-go l .writes) in
+    let long = writes-length (lines-progress l .writes) in
     let stops = l .take-lines .ensures .stops (omega (arith, left, long, writes-length (f .take-joined .ensures .writes))) in
-    chunk-held (k .least .ensures) (k .before .before .before .before .before .pre) (lines-go l) (omega (arith, left, long)) stops (h .hold-rest .ensures)
+    chunk-held (k .least .ensures) (k .before .before .before .before .before .pre) (lines-progress l) (omega (arith, left, long)) stops (h .hold-rest .ensures)
 
 pub take-spec : {M : Type 1} → statement M
 take-spec =

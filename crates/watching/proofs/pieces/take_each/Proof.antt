@@ -4,23 +4,23 @@ use mathlib.Core.Path.{_≡_, refl, _∙_}
 use mathlib.Core.List.{[]}
 use native.Mathlib.Omega.{arith}
 use lib.ListN.{length, length-drop}
-use Rattle.watching.specs.Going.{Goes}
-use Rattle.watching.proofs.Goings.{writes-length, goes-none, goes-from, goes-then}
+use Rattle.watching.specs.Progress.{Progress}
+use Rattle.watching.proofs.Progress.{writes-length, no-progress, progress-ready, progress-then}
 use Rattle.watching.proofs.pieces.take_each.Statement.{statement}
 use Rattle.watching.proofs.pieces.take_each.Tie as tie
 
 abbrev Inv-loop : tie.InvT-loop
 Inv-loop input state₀ out₀ p₀ state out p =
-    Goes (p₀ .run) [] (p₀ .used) (p₀ .written) input state₀ state out₀ out p × (length state ≡ length state₀)
+    Progress (p₀ .run) [] (p₀ .used) (p₀ .written) input state₀ state out₀ out p × (length state ≡ length state₀)
 
 abbrev μ-loop : tie.MeasureT-loop
 μ-loop input state₀ out₀ p₀ state out p = length input - p .used
 
 loop-holds : tie.Need-loop-holds Inv-loop μ-loop
-loop-holds c = (goes-none (c .before .before .before .pre), refl)
+loop-holds c = (no-progress (c .before .before .before .pre), refl)
 
 sub-if1 : tie.Need-sub-if1 Inv-loop μ-loop
-sub-if1 c = goes-from (c .before .loop .inv .0) .fits
+sub-if1 c = progress-ready (c .before .loop .inv .0) .fits
 
 line-end-requires : tie.Need-line-end-requires Inv-loop μ-loop
 line-end-requires c κs = c .before .before .loop .inv .0 .inside
@@ -35,14 +35,14 @@ returns : tie.Need-returns Inv-loop μ-loop
 returns c =
     let l = c .before .before .before .before in
     let rest = length-drop (l .loop .p .used) (l .before .before .before .before .args .input .now) in
-    record { goes = l .loop .inv .0; stops = λ h. omega (arith, c .before .line-end .ensures, c .if2 .taken, rest) }
+    record { progress = l .loop .inv .0; stops = λ h. omega (arith, c .before .line-end .ensures, c .if2 .taken, rest) }
 
 take-next-requires : tie.Need-take-next-requires Inv-loop μ-loop
 take-next-requires c κs =
     let e = c .before .before .before in
     let l = e .before .before .before in
     record {
-      goes = goes-from (l .loop .inv .0);
+      ready = progress-ready (l .loop .inv .0);
       ends = record { place = e .line-end .ensures .0; inside = omega (arith, e .line-end .ensures) };
       room = omega (arith, e .before .if1 .taken);
     }
@@ -57,7 +57,7 @@ loop-again : tie.Need-loop-again Inv-loop μ-loop
 loop-again c =
     let n = c .before .before .before .before in
     let l = n .before .before .before .before .before .before .before in
-    (goes-then (l .loop .inv .0) (n .take-next .ensures .0), n .take-next .kept .1 .1 .1 .0 ∙ l .loop .inv .1)
+    (progress-then (l .loop .inv .0) (n .take-next .ensures .0), n .take-next .kept .1 .1 .1 .0 ∙ l .loop .inv .1)
 
 same-length-3 : tie.Need-same-length-3 Inv-loop μ-loop
 same-length-3 c = c .before .before .loop .inv .1
@@ -68,7 +68,7 @@ same-length-4 c = writes-length (c .before .before .loop .inv .0 .writes)
 returns-2 : tie.Need-returns-2 Inv-loop μ-loop
 returns-2 c =
     let l = c .before .before in
-    record { goes = l .loop .inv .0; stops = λ h. absurd (omega (arith, c .if1 .left, writes-length (l .loop .inv .0 .writes))) }
+    record { progress = l .loop .inv .0; stops = λ h. absurd (omega (arith, c .if1 .left, writes-length (l .loop .inv .0 .writes))) }
 
 pub take-each-spec : {M : Type 1} → statement M
 take-each-spec =

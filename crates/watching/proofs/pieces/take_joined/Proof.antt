@@ -3,7 +3,7 @@ use Prim.Native.Nat.{ℕ, _+_, _^_, _<_}
 use native.Mathlib.Omega.{arith}
 use lib.ListN.{length-replicate}
 use Rattle.watching.proofs.Appending.{appended-few}
-use Rattle.watching.proofs.Goings.{joined-goes}
+use Rattle.watching.proofs.Progress.{joined-progress}
 use borrow.Author.Needs.{needs}
 use Rattle.watching.proofs.pieces.take_joined.Statement.{statement}
 use Rattle.watching.proofs.pieces.take_joined.Tie as tie
@@ -75,7 +75,7 @@ returns c =
     let taken = c .before .before .before .before .before in
     let second = taken .before .before .before .before .before .before in
     let first = second .before .before .before .before in
-    joined-goes (first .before .before .before .before .before .before .before .pre) (first .append .ensures) (second .append2 .ensures) (taken .take-line .ensures)
+    joined-progress (first .before .before .before .before .before .before .before .pre) (first .append .ensures) (second .append2 .ensures) (taken .take-line .ensures)
 
 pub take-joined-spec : {M : Type 1} → statement M
 take-joined-spec =

@@ -1,6 +1,6 @@
 -- `watching::pieces::take_lines` meets its contract: many at once, and then one by one. Assumes nothing.
 use native.Mathlib.Omega.{arith}
-use Rattle.watching.proofs.Goings.{writes-length, goes-then}
+use Rattle.watching.proofs.Progress.{writes-length, progress-then}
 use borrow.Author.Needs.{needs}
 use Rattle.watching.proofs.pieces.take_lines.Statement.{statement}
 use Rattle.watching.proofs.pieces.take_lines.Tie as tie
@@ -22,7 +22,7 @@ returns c =
     let each = c .before .before .before .before in
     let many = each .before .before .before .before .before .before .before in
     record {
-      goes = goes-then (many .take-batches .ensures) (each .take-each .ensures .goes);
+      progress = progress-then (many .take-batches .ensures) (each .take-each .ensures .progress);
       stops = λ h. each .take-each .ensures .stops (omega (arith, h, writes-length (many .take-batches .ensures .writes)));
     }
 

@@ -1,6 +1,7 @@
 -- `watching::pieces::take_next` meets its contract: the line is taken as far as bytes of it are held. Assumes nothing.
 use mathlib.Core.Path.{refl}
-use Rattle.watching.proofs.Goings.{next-goes}
+use native.Mathlib.Omega.{arith}
+use Rattle.watching.proofs.Progress.{writes-on, next-progress}
 use borrow.Author.Needs.{needs}
 use Rattle.watching.proofs.pieces.take_next.Statement.{statement}
 use Rattle.watching.proofs.pieces.take_next.Tie as tie
@@ -39,7 +40,10 @@ add-t12 : tie.Need-add-t12
 add-t12 c = search needs
 
 add-t13 : tie.Need-add-t13
-add-t13 c = search needs
+add-t13 c =
+    let taken = c .before .before .before .before .before .before in
+    let s = taken .before .before .before .before .before .before .before .before .before in
+    omega (arith, writes-on {d = s .args .out .now} (s .pre .ready .fits) (taken .take-line .ensures .written) .fits)
 
 same-length : tie.Need-same-length
 same-length c = search needs
@@ -51,7 +55,7 @@ returns : tie.Need-returns
 returns c =
     let taken = c .before .before .before .before .before .before in
     let s = taken .before .before .before .before .before .before .before .before .before in
-    (next-goes (s .pre) (taken .before .before .before .before .least .ensures) (taken .take-line .ensures), refl)
+    (next-progress (s .pre) (taken .before .before .before .before .least .ensures) (taken .take-line .ensures), refl)
 
 pub take-next-spec : {M : Type 1} → statement M
 take-next-spec =

@@ -1,4 +1,4 @@
--- Lines of an input, one after the other: a line goes, and what goes goes on. Assumes nothing.
+-- Lines of an input taken one after the other: what one line gives, and what follows it. Assumes nothing.
 use Prim.Native.Nat.{ℕ, suc, _+_, _-_, _≤_, min}
 use mathlib.Core.Path.{_≡_, refl, sym, ap, _∙_}
 use mathlib.Core.List.{List, [], _++_, append-assoc}
@@ -13,9 +13,9 @@ use Rattle.watching.specs.declared.Taken.{Taken}
 use Rattle.watching.specs.declared.Chunked.{Chunked}
 use Rattle.watching.specs.Answer.{LineTaken, IsTaken}
 use Rattle.watching.specs.Chunk.{mostHeld}
-use Rattle.watching.specs.Going.{lineLength, LineEnds, Appended, WritesOn, Goes, GoesFrom, GoesNext, JoinReady}
+use Rattle.watching.specs.Progress.{lineLength, LineEnds, Appended, WritesOn, Progress, Ready, LineReady, JoinReady}
 use Rattle.watching.proofs.Takings.{part-first}
-use Rattle.watching.proofs.Biting.{line-leads}
+use Rattle.watching.proofs.TakingBytes.{line-leads}
 use Rattle.watching.proofs.Appending.{take-least, lent-rest, rest-back, joined-line}
 
 -- ---- what is written after what is written
@@ -27,7 +27,7 @@ writes-first w = record { counts = omega (arith, w .counts); fits = w .fits; wri
 pub writes-whole : {bytes d d′ : List ℕ} {n : ℕ} → WritesOn bytes d d′ 0 n → IsWritten bytes d d′ n
 writes-whole w = record { counts = omega (arith, w .counts); fits = w .fits; written = w .written }
 
--- where the rest of the list is lent for them
+-- given the rest of the list to write to
 pub writes-on : {bytes d e : List ℕ} {at n : ℕ} → at ≤ length d → IsWritten bytes (midOf at (length d - at) d) e n
     → WritesOn bytes d (putMid at (length d - at) d e) at (at + n)
 writes-on {bytes} {d} {e} {at} {n} h w =
@@ -38,7 +38,7 @@ writes-on {bytes} {d} {e} {at} {n} h w =
       written = rest-back at d e ∙ ap (λ (l : List ℕ). take at d ++ l) (v .written ∙ ap (λ (l : List ℕ). bytes ++ l) (drop-drop n at d));
     }
 
--- where the first m are lent for them
+-- given its first m to write to
 pub writes-within : {bytes d e : List ℕ} {m n : ℕ} → m ≤ length d → IsWritten bytes (take m d) e n → WritesOn bytes d (putMid 0 m d e) 0 n
 writes-within {bytes} {d} {e} {m} {n} h w =
     let long = length-take-le m d h in
@@ -85,9 +85,9 @@ writes-then {b} {c} {d} {d₁} {d₂} {at} {m} {n} v w = record {
 -- a line that ends at `end`, where h is held
 module _ {run : Run} {h input s d : List ℕ} {from at end : ℕ} (few : length h ≤ mostHeld) (e : LineEnds input from end)
     (room : at + mostWritten ≤ length d) where
-  pub line-goes : {run₁ : Run} {s₁ d₁ bytes : List ℕ} {n : ℕ} → LineTaken run (take mostHeld (h ++ take (end - from) (drop from input))) s s₁ run₁ bytes
-      → WritesOn bytes d d₁ at n → Goes run h from at input s s₁ d d₁ (record { run = run₁; held = 0; used = end + 1; written = n })
-  line-goes {run₁} {s₁} {d₁} {bytes} {n} t w =
+  pub line-progress : {run₁ : Run} {s₁ d₁ bytes : List ℕ} {n : ℕ} → LineTaken run (take mostHeld (h ++ take (end - from) (drop from input))) s s₁ run₁ bytes
+      → WritesOn bytes d d₁ at n → Progress run h from at input s s₁ d d₁ (record { run = run₁; held = 0; used = end + 1; written = n })
+  line-progress {run₁} {s₁} {d₁} {bytes} {n} t w =
       let k : end - from ≡ lineLength (drop from input) = omega (arith, e .place) in
       let left : length d - n ≡ length d - at - length bytes = omega (arith, w .counts) in
       let past : end + 1 ≡ from + suc (lineLength (drop from input)) = omega (arith, e .place) in
@@ -103,9 +103,9 @@ module _ {run : Run} {h input s d : List ℕ} {from at end : ℕ} (few : length 
       }
 
 -- one line and then others
-pub goes-then : {run : Run} {h input s s₁ s₂ d d₁ d₂ : List ℕ} {from at : ℕ} {p q : Chunked} → Goes run h from at input s s₁ d d₁ p
-    → Goes (p .run) [] (p .used) (p .written) input s₁ s₂ d₁ d₂ q → Goes run h from at input s s₂ d d₂ q
-goes-then {p = p} {q = q} g k =
+pub progress-then : {run : Run} {h input s s₁ s₂ d d₁ d₂ : List ℕ} {from at : ℕ} {p q : Chunked} → Progress run h from at input s s₁ d d₁ p
+    → Progress (p .run) [] (p .used) (p .written) input s₁ s₂ d₁ d₂ q → Progress run h from at input s s₂ d d₂ q
+progress-then {p = p} {q = q} g k =
     let long = writes-length (g .writes) in
     record {
       bytes = g .bytes ++ k .bytes;
@@ -116,8 +116,8 @@ goes-then {p = p} {q = q} g k =
     }
 
 -- none yet
-pub goes-none : {input s d : List ℕ} {p : Chunked} → GoesFrom input d p → Goes (p .run) [] (p .used) (p .written) input s s d d p
-goes-none {input} {s} {d} {p} g = record {
+pub no-progress : {input s d : List ℕ} {p : Chunked} → Ready input d p → Progress (p .run) [] (p .used) (p .written) input s s d d p
+no-progress {input} {s} {d} {p} g = record {
   bytes = [];
   leads = λ b. b;
   none = g .none;
@@ -126,29 +126,29 @@ goes-none {input} {s} {d} {p} g = record {
 }
 
 -- others can follow
-pub goes-from : {run : Run} {h input s s₁ d d₁ : List ℕ} {from at : ℕ} {p : Chunked} → Goes run h from at input s s₁ d d₁ p → GoesFrom input d₁ p
-goes-from g = record { none = g .none; inside = g .inside; fits = omega (arith, g .writes .fits, writes-length (g .writes)) }
+pub progress-ready : {run : Run} {h input s s₁ d d₁ : List ℕ} {from at : ℕ} {p : Chunked} → Progress run h from at input s s₁ d d₁ p → Ready input d₁ p
+progress-ready g = record { none = g .none; inside = g .inside; fits = omega (arith, g .writes .fits, writes-length (g .writes)) }
 
 -- the next line in an input, cut, where nothing is held
-pub next-goes : {input s s₁ d e : List ℕ} {end n : ℕ} {p : Chunked} {t : Taken} → GoesNext input d end p → n ≡ min (end - p .used) mostHeld
+pub next-progress : {input s s₁ d e : List ℕ} {end n : ℕ} {p : Chunked} {t : Taken} → LineReady input d end p → n ≡ min (end - p .used) mostHeld
     → IsTaken (p .run) (midOf (p .used) (p .used + n - p .used) input) s s₁ (midOf (p .written) (length d - p .written) d) e t
-    → Goes (p .run) [] (p .used) (p .written) input s s₁ d (putMid (p .written) (length d - p .written) d e)
+    → Progress (p .run) [] (p .used) (p .written) input s s₁ d (putMid (p .written) (length d - p .written) d e)
     (record { run = t .run; held = 0; used = end + 1; written = p .written + t .written })
-next-goes {input} {end = end} {n = n} {p = p} g k t =
+next-progress {input} {end = end} {n = n} {p = p} g k t =
     let l : List ℕ = drop (p .used) input in
     let same : p .used + n - p .used ≡ n = omega arith in
     let whole : length (take (end - p .used) l) ≡ end - p .used =
     length-take-le (end - p .used) l (omega (arith, length-drop (p .used) input, g .ends .inside)) in
     let cut : take n l ≡ take mostHeld (take (end - p .used) l) =
     sym (take-least (take (end - p .used) l) mostHeld n (omega arith) ∙ take-take n (end - p .used) l (omega arith)) in
-    line-goes (omega arith) (g .ends) (g .room) (rw (same, cut) at (t .line)) (writes-on (g .goes .fits) (t .written))
+    line-progress (omega arith) (g .ends) (g .room) (rw (same, cut) at (t .line)) (writes-on (g .ready .fits) (t .written))
 
 -- the line of the bytes held and the first piece of a chunk, joined
-pub joined-goes : {run : Run} {held end from n : ℕ} {chunk p s s₁ d d₁ line₀ line₁ line₂ : List ℕ} {t : Taken} → JoinReady held chunk end p d
+pub joined-progress : {run : Run} {held end from n : ℕ} {chunk p s s₁ d d₁ line₀ line₁ line₂ : List ℕ} {t : Taken} → JoinReady held chunk end p d
     → Appended line₀ 0 (take (held - 0) p) line₁ from → Appended line₁ from (take (end - 0) chunk) line₂ n
     → IsTaken run (take (n - 0) line₂) s s₁ d d₁ t
-    → Goes run (take held p) 0 0 chunk s s₁ d d₁ (record { run = t .run; held = 0; used = end + 1; written = t .written })
-joined-goes {held = held} {n = n} {p = p} {line₂ = line₂} g a b t =
+    → Progress run (take held p) 0 0 chunk s s₁ d d₁ (record { run = t .run; held = 0; used = end + 1; written = t .written })
+joined-progress {held = held} {n = n} {p = p} {line₂ = line₂} g a b t =
     let few : length (take held p) ≤ mostHeld = omega (arith, length-take held p, g .few) in
     let line = part-first n line₂ ∙ joined-line few (rw (part-first held p) at a) b in
-    line-goes few (g .ends) (g .room) (rw line at (t .line)) (writes-first (t .written))
+    line-progress few (g .ends) (g .room) (rw line at (t .line)) (writes-first (t .written))

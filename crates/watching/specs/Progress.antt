@@ -11,7 +11,7 @@ use Rattle.watching.specs.declared.Run.{Run}
 use Rattle.watching.specs.declared.Taken.{Taken}
 use Rattle.watching.specs.declared.Chunked.{Chunked}
 use Rattle.watching.specs.Whole.{Takes}
-use Rattle.watching.specs.Chunk.{mostHeld, Bites, heldIn, lastLines}
+use Rattle.watching.specs.Chunk.{mostHeld, TakesBytes, heldIn, lastLines}
 
 -- the bytes before the first line feed, all if there is none
 unfoldable pub lineLength : List ℕ → ℕ
@@ -38,31 +38,31 @@ pub record WritesOn (bytes d d′ : List ℕ) (at n : ℕ) : Type 0 where
   pub fits : n ≤ length d
   pub written : d′ ≡ take at d ++ (bytes ++ drop n d)
 
--- lines of an input taken from the place `from` on, where h is held, and written to d from `at` on: what the rest of the input does from there,
--- with the room left, the input does from `from` on
-pub record Goes (run : Run) (h : List ℕ) (from at : ℕ) (input s s′ d d′ : List ℕ) (r : Chunked) : Type 0 where
+-- lines of an input taken from the place `from` on, with h held, and their output written to d from `at` on: whatever taking the rest of the input
+-- gives from there, with the room left, taking the input from `from` on gives after these bytes
+pub record Progress (run : Run) (h : List ℕ) (from at : ℕ) (input s s′ d d′ : List ℕ) (r : Chunked) : Type 0 where
   pub bytes : List ℕ
-  pub leads : {run″ : Run} {h″ s″ rest left : List ℕ} → Bites (length d - r .written) (r .run) [] s′ (drop (r .used) input) run″ h″ s″ rest left
-      → Bites (length d - at) run h s (drop from input) run″ h″ s″ (bytes ++ rest) left
+  pub leads : {run″ : Run} {h″ s″ rest left : List ℕ} → TakesBytes (length d - r .written) (r .run) [] s′ (drop (r .used) input) run″ h″ s″ rest left
+      → TakesBytes (length d - at) run h s (drop from input) run″ h″ s″ (bytes ++ rest) left
   pub none : r .held ≡ 0
   pub inside : r .used ≤ length input
   pub writes : WritesOn bytes d d′ at (r .written)
 
--- a place in an input and in the output from which lines can be taken
-pub record GoesFrom (input d : List ℕ) (r : Chunked) : Type 0 where
+-- lines can be taken: nothing is held, and the places are inside the input and the output
+pub record Ready (input d : List ℕ) (r : Chunked) : Type 0 where
   pub none : r .held ≡ 0
   pub inside : r .used ≤ length input
   pub fits : r .written ≤ length d
 
--- besides, a line ends at `end`, and there is room for what it writes
-pub record GoesNext (input d : List ℕ) (end : ℕ) (r : Chunked) : Type 0 where
-  pub goes : GoesFrom input d r
+-- the next line can be taken: it ends at `end`, and there is room for what it writes
+pub record LineReady (input d : List ℕ) (end : ℕ) (r : Chunked) : Type 0 where
+  pub ready : Ready input d r
   pub ends : LineEnds input (r .used) end
   pub room : r .written + mostWritten ≤ length d
 
 -- lines are taken as long as there is room
-pub record GoesOn (input s s′ d d′ : List ℕ) (r r′ : Chunked) : Type 0 where
-  pub goes : Goes (r .run) [] (r .used) (r .written) input s s′ d d′ r′
+pub record LinesTaken (input s s′ d d′ : List ℕ) (r r′ : Chunked) : Type 0 where
+  pub progress : Progress (r .run) [] (r .used) (r .written) input s s′ d d′ r′
   pub stops : mostWritten ≤ length d - r′ .written → Unended (drop (r′ .used) input)
 
 -- the line that a line feed at `end` ends, after the bytes held, can be taken

@@ -1,4 +1,4 @@
--- The theorems: what reading and writing promise leaves no choice, since the answer is what a function of the arguments computes; and
+-- Each claim of specs/Claim, proved: what reading and writing promise leaves no choice, since the answer is what a function of the arguments computes; and
 -- what is written of a tick is read back. Assumes nothing.
 use mathlib.Core.Path.{_≡_, refl, sym, ap, _∙_, subst}
 use mathlib.Core.Logic.{_⊎_, inl, inr}

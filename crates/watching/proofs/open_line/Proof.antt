@@ -1,13 +1,14 @@
--- `watching::begin` meets its contract: the text read is the part of the body that the state is opened with. Assumes nothing.
+-- `watching::open_line` meets its contract: the text read is the part of the body that the state is opened with. Assumes nothing.
 use mathlib.Core.Path.{refl, subst}
 use native.Mathlib.Omega.{arith}
 use Rattle.text.specs.Answer.{ReadingOf}
+use Rattle.watcher.specs.declared.Opening.the-variants as Opens
 use Rattle.watcher.specs.Answer.{OpenAnswers}
-use Rattle.watching.specs.Answer.BeginRefused.{unread}
-use Rattle.watching.proofs.Takings.{part-first, opened-by, unopened-by}
+use Rattle.watching.specs.Answer.FirstLine.{unread, unopened, opened}
+use Rattle.watching.proofs.Takings.{part-opened}
 use borrow.Author.Needs.{needs}
-use Rattle.watching.proofs.begin.Statement.{statement}
-use Rattle.watching.proofs.begin.Tie as tie
+use Rattle.watching.proofs.open_line.Statement.{statement}
+use Rattle.watching.proofs.open_line.Tie as tie
 
 slice-aggregate-read-pattern : tie.Need-slice-aggregate-read-pattern
 slice-aggregate-read-pattern c = search needs
@@ -43,7 +44,7 @@ enum-known-r c = search needs
 
 returns : tie.Need-returns
 returns c =
-    (unread (subst (ReadingOf _ _ _) (c .before .reading .given .1) (c .before .before .before .before .read-pattern .ensures)), refl)
+    unread (subst (ReadingOf _ _ _) (c .before .reading .given .1) (c .before .before .before .before .read-pattern .ensures)) refl
 
 same-length : tie.Need-same-length
 same-length c = search needs
@@ -53,9 +54,9 @@ returns-2 c =
     let opens = c .before .before .before .before in
     let known = opens .before .before .before .before .before in
     let reads = known .before .before .before in
-    opened-by _ _ _ _ _ _ (part-first (known .reading2 .given .0 .0) (reads .read-pattern .last .1 .0))
-    (subst (ReadingOf _ _ _) (known .reading2 .given .1) (reads .read-pattern .ensures))
-    (subst (OpenAnswers _ _ _) (c .enum-told .given .1) (opens .«open» .ensures))
+    opened (subst (ReadingOf _ _ _) (known .reading2 .given .1) (reads .read-pattern .ensures))
+    (part-opened (known .reading2 .given .0 .0) (reads .read-pattern .last .1 .0) _ _ Opens.Opened
+    (subst (OpenAnswers _ _ _) (c .enum-told .given .1) (opens .«open» .ensures)))
 
 same-length-2 : tie.Need-same-length-2
 same-length-2 c = search needs
@@ -65,12 +66,12 @@ returns-3 c =
     let opens = c .before .before .before .before .before in
     let known = opens .before .before .before .before .before in
     let reads = known .before .before .before in
-    unopened-by _ _ _ _ _ _ _ (part-first (known .reading2 .given .0 .0) (reads .read-pattern .last .1 .0))
-    (subst (ReadingOf _ _ _) (known .reading2 .given .1) (reads .read-pattern .ensures))
-    (subst (OpenAnswers _ _ _) (c .before .r .given .1) (opens .«open» .ensures))
+    unopened (subst (ReadingOf _ _ _) (known .reading2 .given .1) (reads .read-pattern .ensures))
+    (part-opened (known .reading2 .given .0 .0) (reads .read-pattern .last .1 .0) _ _ (Opens.Refused _)
+    (subst (OpenAnswers _ _ _) (c .before .r .given .1) (opens .«open» .ensures)))
 
-pub begin-spec : {M : Type 1} → statement M
-begin-spec =
+pub open-line-spec : {M : Type 1} → statement M
+open-line-spec =
     tie.close
     (tie.spec
     slice-aggregate-read-pattern

@@ -1,12 +1,11 @@
--- `watching::step` meets its contract: the line is read, and then the state takes its tick. Assumes nothing.
+-- `watching::tick_line` meets its contract: the line is read, and then the state takes its tick. Assumes nothing.
 use mathlib.Core.Path.{refl, subst}
 use Rattle.line.specs.Answer.{LineReadOf}
 use Rattle.watcher.specs.Answer.{TickAnswers}
-use Rattle.watching.specs.Answer.StepRefused.{unread}
-use Rattle.watching.proofs.Takings.{unticked-by}
+use Rattle.watching.specs.Answer.FurtherLine.{unread, unticked, window, nothing}
 use borrow.Author.Needs.{needs}
-use Rattle.watching.proofs.step.Statement.{statement}
-use Rattle.watching.proofs.step.Tie as tie
+use Rattle.watching.proofs.tick_line.Statement.{statement}
+use Rattle.watching.proofs.tick_line.Tie as tie
 
 read-tick-requires : tie.Need-read-tick-requires
 read-tick-requires c κs = search needs
@@ -31,7 +30,7 @@ enum-known-r-2 c = search needs
 
 returns : tie.Need-returns
 returns c =
-    (unread (subst (LineReadOf _) (c .before .r .given .1) (c .before .before .before .read-tick .ensures)), refl)
+    unread (subst (LineReadOf _) (c .before .r .given .1) (c .before .before .before .read-tick .ensures)) refl
 
 same-length : tie.Need-same-length
 same-length c = search needs
@@ -40,11 +39,8 @@ returns-2 : tie.Need-returns-2
 returns-2 c =
     let ticks = c .before .before .before .before .before in
     let known = ticks .before .before .before in
-    record {
-      events = known .t .given .0 .1 .0;
-      read = subst (LineReadOf _) (known .t .given .1) (known .before .before .read-tick .ensures);
-      ticked = subst (TickAnswers _ _ _ _) (c .before .start .given .1) (ticks .tick .ensures);
-    }
+    window (subst (LineReadOf _) (known .t .given .1) (known .before .before .read-tick .ensures))
+    (subst (TickAnswers _ _ _ _) (c .before .start .given .1) (ticks .tick .ensures))
 
 same-length-2 : tie.Need-same-length-2
 same-length-2 c = search needs
@@ -52,14 +48,9 @@ same-length-2 c = search needs
 returns-3 : tie.Need-returns-3
 returns-3 c =
     let ticks = c .before .before .before .before in
-    let known = ticks .before .before .before in (
-      known .t .given .0 .0,
-      record {
-        events = known .t .given .0 .1 .0;
-        read = subst (LineReadOf _) (known .t .given .1) (known .before .before .read-tick .ensures);
-        ticked = subst (TickAnswers _ _ _ _) (c .enum-told .given .1) (ticks .tick .ensures);
-      },
-    )
+    let known = ticks .before .before .before in
+    nothing (subst (LineReadOf _) (known .t .given .1) (known .before .before .read-tick .ensures))
+    (subst (TickAnswers _ _ _ _) (c .enum-told .given .1) (ticks .tick .ensures))
 
 same-length-3 : tie.Need-same-length-3
 same-length-3 c = search needs
@@ -68,11 +59,11 @@ returns-4 : tie.Need-returns-4
 returns-4 c =
     let ticks = c .before .before .before .before .before in
     let known = ticks .before .before .before in
-    unticked-by _ _ _ _ _ _ (subst (LineReadOf _) (known .t .given .1) (known .before .before .read-tick .ensures))
+    unticked (subst (LineReadOf _) (known .t .given .1) (known .before .before .read-tick .ensures))
     (subst (TickAnswers _ _ _ _) (c .before .r2 .given .1) (ticks .tick .ensures))
 
-pub step-spec : {M : Type 1} → statement M
-step-spec =
+pub tick-line-spec : {M : Type 1} → statement M
+tick-line-spec =
     tie.close
     (tie.spec
     read-tick-requires

@@ -1,4 +1,4 @@
--- The theorems: what is accepted is exactly what the printer writes, the place of a refused text, and reading and printing back. Each
+-- Each claim of specs/Claim, proved: what is accepted is exactly what the printer writes, the place of a refused text, and reading and printing back. Each
 -- shows an answer that meets the promise, and that there is no second one. Assumes nothing.
 use mathlib.Core.Path.{_≡_, refl, sym, ap, _∙_, subst}
 use Prim.Native.Nat.{ℕ, _≤_}
@@ -15,13 +15,19 @@ use Rattle.text.specs.Render.{render}
 use Rattle.text.specs.Grammar.{TextOf}
 use Rattle.text.specs.Answer.{IsSyntax, RefusedText, ReadingOf, PrintingOf}
 use Rattle.text.specs.Answer.RefusedText.{long, syntax, many, room}
-use Rattle.text.specs.Claim.{Readable, AcceptedExactly, SyntaxExactly, LongestPrefix, OnePattern, ReadPrinted, PrintedRead, AtMostPrinted}
+use Rattle.text.specs.Claim.{Readable, OneReading, OnePrinting, AcceptedExactly, SyntaxExactly, LongestPrefix, OnePattern, ReadPrinted, PrintedRead, AtMostPrinted}
 use Rattle.text.specs.declared.Reading.{Reading}
 use Rattle.text.specs.declared.Reading.the-variants.{Read, Refused}
 use Rattle.text.specs.declared.Printing.the-variants.{Printed}
 use Rattle.text.proofs.Sound.{one-pattern as one-tree}
 use Rattle.text.proofs.Lengths.{most-printed}
-use Rattle.text.proofs.Decided.{one-reading, one-printing}
+use Rattle.text.proofs.Decided as Decided
+
+pub one-reading : OneReading
+one-reading = Decided.one-reading
+
+pub one-printing : OnePrinting
+one-printing = Decided.one-printing
 
 pub one-pattern : OnePattern
 one-pattern = one-tree
