@@ -1,7 +1,7 @@
 -- Many ticks: a state stays in form after each, so all are taken if none is over the limit or below the next allowed; and a turn of the loop that
 -- takes them leads to the end of all. Assumes nothing.
 use Prim.Native.Nat.{ℕ, suc, _+_, _≤_, _<_}
-use mathlib.Core.Path.{_≡_, refl, sym, _∙_}
+use mathlib.Core.Path.{_≡_, refl, sym, ap, _∙_}
 use mathlib.Core.Bool.{true, false}
 use mathlib.Core.List.{List, [], _∷_, _++_, append-assoc, append-nil}
 use native.Mathlib.Decide.{decLe, decLt}
@@ -23,7 +23,7 @@ use Rattle.watcher.specs.State.{nextOf, InForm}
 use Rattle.watcher.specs.Answer.{IsTicked}
 use Rattle.watcher.specs.Walk.{formed, answerOf, wordsAfter, answersFed, wordsFed}
 use Rattle.watcher.specs.Feed.{paired, AllTicked, none, more, firstFault, IsFed, FeedRefused, broken, faulty}
-use Rattle.watcher.specs.Step.{StepsReady, FeedReady, FeedDone}
+use Rattle.watcher.specs.Step.{StepsReady, StepsDone, FeedReady, FeedDone}
 use Rattle.watcher.proofs.States.{next-word}
 use Rattle.watcher.proofs.Judges.{formed-exactly}
 use Rattle.watcher.proofs.Calls.{walked-as-ticked}
@@ -183,3 +183,17 @@ module _ (s ts ws old : List ℕ) (even : length ts ≡ length ws) (room : lengt
 
   pub fed-faulty : formed s ≡ true → (r : Refusal) → firstFault 0 (nextOf s) ts ≡ Refused r → FeedRefused s ts ws old r
   fed-faulty q r e = let f : InForm s = formed-exactly s .0 q in faulty even room f (rw (next-word f) at e)
+
+-- one tick, as one of many
+pub one-ready : {s : List ℕ} {t : ℕ} (w a : ℕ) → StepsReady s t → FeedReady s (t ∷ []) (w ∷ []) (a ∷ [])
+unfolding firstFault
+one-ready {s} {t} w a r = record {
+  form = r .form;
+  even = refl;
+  room = omega arith;
+  sound = pick-no (decLe ticks t) _ _ (λ h. omega (arith, r .range)) ∙ pick-no (decLt t (nextOf s)) _ _ (λ h. omega (arith, r .late));
+}
+
+pub one-done : {s : List ℕ} {t w a : ℕ} {s′ new : List ℕ} → FeedDone s (t ∷ []) (w ∷ []) (a ∷ []) s′ new → StepsDone s t w s′ (getD new 0 0)
+unfolding paired answersFed wordsFed
+one-done d = record { answer = ap (λ (l : List ℕ). getD l 0 0) (d .answers); words = d .words }

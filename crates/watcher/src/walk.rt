@@ -23,15 +23,40 @@ pub(crate) fn step_small(state: &mut [u64], t: u64, events: u32) -> u64
     step_over(state, t, events, &mut answers, &mut base, &mut starts)
 }
 
-// For up to 63 entries: at most 32 answers and 62 possible starts.
+// For up to 63 entries: as one tick of many.
 pub(crate) fn step_large(state: &mut [u64], t: u64, events: u32) -> u64
     requires { ⌜ StepsReady (now state) t ⌝ }
     ensures { λ r. ⌜ StepsDone (now (state .entry)) t events (now (state .exit)) r ⌝ }
 {
-    let mut answers = [0u64; 32];
+    let ticks = [t];
+    let words = [events];
+    let mut answers = [0u64; 1];
+    steps(state, &ticks, &words, &mut answers);
+    answers[0]
+}
+
+// Takes ticks with their events, one after the other, and writes their answers. A stack of 32 answers and 62 possible starts is enough for
+// 63 entries, and serves every tick.
+pub(crate) fn steps(state: &mut [u64], ticks: &[u64], events: &[u32], answers: &mut [u64])
+    requires { ⌜ FeedReady (now state) (now ticks) (now events) (now answers) ⌝ }
+    ensures { λ _. ⌜ FeedDone (now (state .entry)) (now (ticks .entry)) (now (events .entry)) (now (answers .entry))
+        (now (state .exit)) (now (answers .exit)) ⌝ }
+{
+    let mut stack = [0u64; 32];
     let mut base = [0usize; 33];
     let mut starts = [0u64; 62];
-    step_over(state, t, events, &mut answers, &mut base, &mut starts)
+    let mut i: usize = 0;
+    while i < ticks.len() {
+        answers[i] = step_over(
+            state,
+            ticks[i],
+            events[i],
+            &mut stack,
+            &mut base,
+            &mut starts,
+        );
+        i += 1;
+    }
 }
 
 // Steps the entries in order, with a stack in the arrays: the possible starts at place k are starts[base[k]..base[k + 1]]. The arrays
@@ -72,29 +97,6 @@ fn step_over(
     }
     state[NEXT] = t + 1;
     answers[0]
-}
-
-// Takes ticks with their events, one after the other, and writes their answers.
-pub(crate) fn steps(state: &mut [u64], ticks: &[u64], events: &[u32], answers: &mut [u64])
-    requires { ⌜ FeedReady (now state) (now ticks) (now events) (now answers) ⌝ }
-    ensures { λ _. ⌜ FeedDone (now (state .entry)) (now (ticks .entry)) (now (events .entry)) (now (answers .entry))
-        (now (state .exit)) (now (answers .exit)) ⌝ }
-{
-    let mut stack = [0u64; 32];
-    let mut base = [0usize; 33];
-    let mut starts = [0u64; 62];
-    let mut i: usize = 0;
-    while i < ticks.len() {
-        answers[i] = step_over(
-            state,
-            ticks[i],
-            events[i],
-            &mut stack,
-            &mut base,
-            &mut starts,
-        );
-        i += 1;
-    }
 }
 
 // The answer of a letter: t itself is the start, if the event is there.

@@ -2,7 +2,7 @@
 use mathlib.Core.Path.{_∙_}
 use native.Mathlib.Omega.{arith}
 use borrow.Author.Needs.{needs}
-use Rattle.watcher.proofs.Formed.{formed-short, formed-least, formed-most, formed-long, formed-early, extent-judged, extent-none}
+use Rattle.watcher.proofs.form.Formed.{formed-short, formed-least, formed-most, formed-long, formed-early, extent-judged, extent-none}
 use Rattle.watcher.proofs.extent.Statement.{statement}
 use Rattle.watcher.proofs.extent.Tie as tie
 

@@ -2,7 +2,7 @@
 use native.Mathlib.Omega.{arith}
 use borrow.Author.Needs.{needs}
 use Rattle.watcher.proofs.Calls.{steps-ready, steps-ticked}
-use Rattle.watcher.proofs.Stepping.{ready-long}
+use Rattle.watcher.proofs.walk.Stepping.{ready-long}
 use Rattle.watcher.proofs.step.Statement.{statement}
 use Rattle.watcher.proofs.step.Tie as tie
 

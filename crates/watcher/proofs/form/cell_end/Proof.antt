@@ -10,7 +10,7 @@ use Rattle.cell.specs.Form.{cellFits}
 use Rattle.cell.proofs.FormLaws.{cell-in-form}
 use Rattle.watcher.proofs.Arrays.{part-is, part-long}
 use Rattle.watcher.proofs.Cells.{words-le}
-use Rattle.watcher.proofs.Judging.{cell-taken, cell-short, cell-broken}
+use Rattle.watcher.proofs.form.Judging.{cell-taken, cell-short, cell-broken}
 use Rattle.watcher.proofs.form.cell_end.Statement.{statement}
 use Rattle.watcher.proofs.form.cell_end.Tie as tie
 

@@ -12,8 +12,8 @@ use Rattle.body.proofs.Stacks.{stack-set, stack-set2}
 use Rattle.watcher.specs.Walk.{entryIn}
 use Rattle.watcher.proofs.Arrays.{length-stack}
 use Rattle.watcher.proofs.Piles.{possible-le}
-use Rattle.watcher.proofs.Judging.{Judging, judging-start, judging-one, judging-other, judging-letter, judging-within, judging-pair}
-use Rattle.watcher.proofs.Judging.{judging-broken, judging-wrong, judging-no-one, judging-no-two, judging-deep, judging-popped, judging-small}
+use Rattle.watcher.proofs.form.Judging.{Judging, judging-start, judging-one, judging-other, judging-letter, judging-within, judging-pair}
+use Rattle.watcher.proofs.form.Judging.{judging-broken, judging-wrong, judging-no-one, judging-no-two, judging-deep, judging-popped, judging-small}
 use Rattle.watcher.proofs.form.judged_end.Statement.{statement}
 use Rattle.watcher.proofs.form.judged_end.Tie as tie
 

@@ -1,6 +1,6 @@
 -- `watcher::walk::pair` meets its contract: the cell that is lent is the operator's, and each write is one of the promise's. Assumes nothing.
 use borrow.Author.Needs.{needs}
-use Rattle.watcher.proofs.Pairing.{pair-done}
+use Rattle.watcher.proofs.walk.Pairing.{pair-done}
 use Rattle.watcher.proofs.walk.pair.Statement.{statement}
 use Rattle.watcher.proofs.walk.pair.Tie as tie
 

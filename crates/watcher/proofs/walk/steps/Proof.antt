@@ -3,7 +3,7 @@ use Prim.Native.Nat.{_-_}
 use mathlib.Core.Path.{_≡_, refl, _∙_}
 use lib.ListN.{length, getD}
 use borrow.Author.Needs.{needs}
-use Rattle.watcher.proofs.Stepping.{large-stack}
+use Rattle.watcher.proofs.walk.Stepping.{large-stack}
 use Rattle.watcher.proofs.Feeds.{Feeds, feeds-start, feeds-end, feeds-ready, feeds-more}
 use Rattle.watcher.proofs.walk.steps.Statement.{statement}
 use Rattle.watcher.proofs.walk.steps.Tie as tie

@@ -19,13 +19,13 @@ use Rattle.watcher.specs.Walk.{entryIn, letterAnswer, withinAnswer, last
 use Rattle.watcher.specs.Step.{segment, over, PairReady, PairDone, StackFor, StepsReady, StepsDone}
 use Rattle.watcher.proofs.States.{count-word, state-long}
 use Rattle.watcher.proofs.Judges.{formed-exactly}
-use Rattle.watcher.proofs.Runs.{startsOn}
+use Rattle.watcher.proofs.walk.Runs.{startsOn}
 use Rattle.watcher.proofs.Arrays.{length-stack}
-use Rattle.watcher.proofs.Segments.{length-over, valueAt, values, Laid, length-segment, starts-below}
-use Rattle.watcher.proofs.Segments.{laid-push, values-push, laid-top, values-top, values-two, laid-pair, values-pair}
-use Rattle.watcher.proofs.Pairing.{starts-after-own}
-use Rattle.watcher.proofs.Walking.{Walking, walking-start, walking-low, walking-few, walking-end, walking-letter, walking-two, walking-one}
-use Rattle.watcher.proofs.Walking.{walking-wrong, walking-within, walking-cell, walking-pair}
+use Rattle.watcher.proofs.walk.Segments.{length-over, valueAt, values, Laid, length-segment, starts-below}
+use Rattle.watcher.proofs.walk.Segments.{laid-push, values-push, laid-top, values-top, values-two, laid-pair, values-pair}
+use Rattle.watcher.proofs.walk.Pairing.{starts-after-own}
+use Rattle.watcher.proofs.walk.Walking.{Walking, walking-start, walking-low, walking-few, walking-end, walking-letter, walking-two, walking-one}
+use Rattle.watcher.proofs.walk.Walking.{walking-wrong, walking-within, walking-cell, walking-pair}
 
 -- before entry i of the old words: s are the words now, the next cell begins at a place, and the stack has d places
 pub record Stepping (deep many t w : ℕ) (old s answers base starts : List ℕ) (at d i : ℕ) : Type 0 where

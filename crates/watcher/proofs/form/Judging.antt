@@ -31,7 +31,7 @@ use Rattle.watcher.proofs.Judges.{run-none}
 use Rattle.watcher.proofs.Entries.{run-step}
 use Rattle.watcher.proofs.Piles.{total, possible-le}
 use Rattle.watcher.proofs.Arrays.{length-stack}
-use Rattle.watcher.proofs.Sounds.{soundFrom, sound-turn, sound-lacks, sound-end}
+use Rattle.watcher.proofs.form.Sounds.{soundFrom, sound-turn, sound-lacks, sound-end}
 
 -- a cell at a place, judged
 module _ (s : List ℕ) (op : Op) (at y : ℕ) where

@@ -23,9 +23,9 @@ use Rattle.watcher.specs.Walk.{formed, ticked, lastAnswer, answerOf, wor
 use Rattle.watcher.proofs.Entries.{run-step}
 use Rattle.watcher.proofs.States.{next-word, state-long}
 use Rattle.watcher.proofs.Judges.{formed-exactly}
-use Rattle.watcher.proofs.Runs.{Ready, startsOn, Stands, Runs, runs-start, walk-start, turn-stands, turn-ready, turn-runs}
-use Rattle.watcher.proofs.Runs.{ready-pair, ready-within, stands-low, stands-few}
-use Rattle.watcher.proofs.Places.{Held, held-start, held-ahead, held-length, held-entry, held-put, held-end}
+use Rattle.watcher.proofs.walk.Runs.{Ready, startsOn, Stands, Runs, runs-start, walk-start, turn-stands, turn-ready, turn-runs}
+use Rattle.watcher.proofs.walk.Runs.{ready-pair, ready-within, stands-low, stands-few}
+use Rattle.watcher.proofs.walk.Places.{Held, held-start, held-ahead, held-length, held-entry, held-put, held-end}
 use Rattle.watcher.proofs.Calls.{ticked-in-form}
 
 -- before entry i of the old words: s are the words now, the next cell begins at a place, and st is the stack

@@ -11,7 +11,7 @@ use Rattle.body.specs.Stack.{stackBy}
 use Rattle.body.proofs.Stacks.{stack-ext, stack-push, stack-pop}
 use Rattle.watcher.specs.Walk.{Value}
 use Rattle.watcher.specs.Step.{segment, over}
-use Rattle.watcher.proofs.Runs.{startsOn}
+use Rattle.watcher.proofs.walk.Runs.{startsOn}
 
 part-front : (a n : ℕ) (p q : List ℕ) → a + n ≤ length p → take n (drop a (p ++ q)) ≡ take n (drop a p)
 part-front a n p q h = ap (take n) (drop-append-le a p q (omega arith)) ∙ take-append-le n (drop a p) q (omega (arith, length-drop a p))
