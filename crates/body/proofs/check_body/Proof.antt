@@ -42,15 +42,6 @@ loop-holds c = (
   simp (sub-zero, eq-eqb _ _ (c .before .before .if1 .left), le-leb _ _ (c .before .if2 .left), le-leb _ _ (c .if3 .left)),
 )
 
-entry-at-requires : tie.Need-entry-at-requires Inv-loop μ-loop
-entry-at-requires c κs = search needs
-
-depth-after-requires : tie.Need-depth-after-requires Inv-loop μ-loop
-depth-after-requires c κs = search needs
-
-enum-known-left : tie.Need-enum-known-left Inv-loop μ-loop
-enum-known-left c = search needs
-
 -- an entry that finds its operands leaves at most one tree more
 turn-le : (c : tie.After-known-told Inv-loop μ-loop)
     → let k = c .before .before .before .before .before .before in c .before .left .given .0 .0 ≤ k .loop .trees + 1
@@ -62,9 +53,6 @@ turn-le c =
 cast-trees : tie.Need-cast-trees Inv-loop μ-loop
 cast-trees c = omega (arith, turn-le c)
 
-enum-told : tie.Need-enum-told Inv-loop μ-loop
-enum-told c = search needs
-
 returns-4 : tie.Need-returns-4 Inv-loop μ-loop
 returns-4 c =
     let k = c .before .before .before .before .before in
@@ -73,12 +61,6 @@ returns-4 c =
     let d = k .loop .trees in
     let q : depthOf (entryAt argumentBytes b i) d ≡ Lacks = cc in
     rw (scan-turn (entryAt argumentBytes b) (length b / 5) i d (omega arith), q) at (k .loop .inv .2)
-
-add-i : tie.Need-add-i Inv-loop μ-loop
-add-i c = search needs
-
-loop-less : tie.Need-loop-less Inv-loop μ-loop
-loop-less c = search needs
 
 loop-again : tie.Need-loop-again Inv-loop μ-loop
 loop-again c =
@@ -113,14 +95,14 @@ check-body-spec =
     returns-2
     returns-3
     loop-holds
-    entry-at-requires
-    depth-after-requires
-    enum-known-left
+    (λ c κs. search needs)
+    (λ c κs. search needs)
+    (λ c. search needs)
     cast-trees
-    enum-told
+    (λ c. search needs)
     returns-4
-    add-i
-    loop-less
+    (λ c. search needs)
+    (λ c. search needs)
     loop-again
     returns-5
     returns-6)

@@ -15,9 +15,6 @@ returns-2 : tie.Need-returns-2
 unfolding entryOf
 returns-2 c = simp (eq-eqb _ _ (c .before .if1 .taken), le-ltb (c .before .before .args .argument) 32 (omega arith))
 
-op-of-requires : tie.Need-op-of-requires
-op-of-requires c κs = search needs
-
 returns-3 : tie.Need-returns-3
 unfolding entryOf
 returns-3 c =
@@ -59,4 +56,4 @@ returns-7 c = simp (ne-eqb _ _ (c .before .before .if1 .left), le-ltb _ _ (c .be
 pub decode-spec : {M : Type 1} → statement M
 decode-spec =
     tie.close
-    (tie.spec returns returns-2 op-of-requires returns-3 returns-4 returns-5 returns-6 returns-7)
+    (tie.spec returns returns-2 (λ c κs. search needs) returns-3 returns-4 returns-5 returns-6 returns-7)

@@ -9,21 +9,6 @@ use Rattle.body.proofs.depth_after.Tie as tie
 enum-told : tie.Need-enum-told
 enum-told c = search needs
 
-add-t5 : tie.Need-add-t5
-add-t5 c = search needs
-
-enum-told-2 : tie.Need-enum-told-2
-enum-told-2 c = search needs
-
-sub-t9 : tie.Need-sub-t9
-sub-t9 c = search needs
-
-enum-told-3 : tie.Need-enum-told-3
-enum-told-3 c = search needs
-
-enum-told-4 : tie.Need-enum-told-4
-enum-told-4 c = search needs
-
 returns : tie.Need-returns
 unfolding depthOf
 returns c = rw (c .enum-told .given .1)
@@ -53,11 +38,11 @@ depth-after-spec =
     tie.close
     (tie.spec
     enum-told
-    add-t5
-    enum-told-2
-    sub-t9
-    enum-told-3
-    enum-told-4
+    (λ c. search needs)
+    (λ c. search needs)
+    (λ c. search needs)
+    (λ c. search needs)
+    (λ c. search needs)
     returns
     returns-2
     returns-3

@@ -14,24 +14,6 @@ returns c =
     let a = c .before .before .args in
     rw (lt-leb ((a .i + 1) * 5) (length (a .body .now)) (omega arith))
 
-mul-at : tie.Need-mul-at
-mul-at c = search needs
-
-shared-slice-read-wide : tie.Need-shared-slice-read-wide
-shared-slice-read-wide c = search needs
-
-wide-requires : tie.Need-wide-requires
-wide-requires c κs = search needs
-
-add-argument-at : tie.Need-add-argument-at
-add-argument-at c = search needs
-
-argument-at-requires : tie.Need-argument-at-requires
-argument-at-requires c κs = search needs
-
-decode-requires : tie.Need-decode-requires
-decode-requires c κs = search needs
-
 returns-2 : tie.Need-returns-2
 unfolding entryAt
 returns-2 c =
@@ -43,10 +25,10 @@ entry-at-spec =
     tie.close
     (tie.spec
     returns
-    mul-at
-    shared-slice-read-wide
-    wide-requires
-    add-argument-at
-    argument-at-requires
-    decode-requires
+    (λ c. search needs)
+    (λ c. search needs)
+    (λ c κs. search needs)
+    (λ c. search needs)
+    (λ c κs. search needs)
+    (λ c κs. search needs)
     returns-2)

@@ -7,24 +7,6 @@ use Rattle.cell.proofs.in_form.Tie as tie
 enum-told : tie.Need-enum-told
 enum-told c = search needs
 
-enum-told-2 : tie.Need-enum-told-2
-enum-told-2 c = search needs
-
-both-fits-requires : tie.Need-both-fits-requires
-both-fits-requires c κs = search needs
-
-enum-told-3 : tie.Need-enum-told-3
-enum-told-3 c = search needs
-
-without-fits-requires : tie.Need-without-fits-requires
-without-fits-requires c κs = search needs
-
-enum-told-4 : tie.Need-enum-told-4
-enum-told-4 c = search needs
-
-chain-fits-requires : tie.Need-chain-fits-requires
-chain-fits-requires c κs = search needs
-
 returns : tie.Need-returns
 returns c = rw (c .enum-told .given .1) (either-in-form _ _)
 
@@ -42,12 +24,12 @@ in-form-spec =
     tie.close
     (tie.spec
     enum-told
-    enum-told-2
-    both-fits-requires
-    enum-told-3
-    without-fits-requires
-    enum-told-4
-    chain-fits-requires
+    (λ c. search needs)
+    (λ c κs. search needs)
+    (λ c. search needs)
+    (λ c κs. search needs)
+    (λ c. search needs)
+    (λ c κs. search needs)
     returns
     returns-2
     returns-3

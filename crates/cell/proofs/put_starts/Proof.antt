@@ -8,27 +8,9 @@ use Rattle.cell.proofs.put_starts.Tie as tie
 enum-told : tie.Need-enum-told
 enum-told c = search needs
 
-enum-told-2 : tie.Need-enum-told-2
-enum-told-2 c = search needs
-
-push-both-requires : tie.Need-push-both-requires
-push-both-requires c κs = search needs
-
-enum-told-3 : tie.Need-enum-told-3
-enum-told-3 c = search needs
-
-enum-told-4 : tie.Need-enum-told-4
-enum-told-4 c = search needs
-
-push-chain-requires : tie.Need-push-chain-requires
-push-chain-requires c κs = search needs
-
 returns : tie.Need-returns
 unfolding cellStarts
 returns c = push-same _ _ _ _ (rw (c .enum-told .given .1))
-
-same-length : tie.Need-same-length
-same-length c = search needs
 
 returns-2 : tie.Need-returns-2
 returns-2 c =
@@ -38,9 +20,6 @@ returns-2 c =
 returns-3 : tie.Need-returns-3
 unfolding cellStarts
 returns-3 c = push-same _ _ _ _ (rw (c .enum-told3 .given .1))
-
-same-length-2 : tie.Need-same-length-2
-same-length-2 c = search needs
 
 returns-4 : tie.Need-returns-4
 returns-4 c =
@@ -52,14 +31,14 @@ put-starts-spec =
     tie.close
     (tie.spec
     enum-told
-    enum-told-2
-    push-both-requires
-    enum-told-3
-    enum-told-4
-    push-chain-requires
+    (λ c. search needs)
+    (λ c κs. search needs)
+    (λ c. search needs)
+    (λ c. search needs)
+    (λ c κs. search needs)
     returns
-    same-length
+    (λ c. search needs)
     returns-2
     returns-3
-    same-length-2
+    (λ c. search needs)
     returns-4)

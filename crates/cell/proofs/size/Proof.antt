@@ -7,21 +7,6 @@ use Rattle.cell.proofs.size.Tie as tie
 enum-told : tie.Need-enum-told
 enum-told c = search needs
 
-enum-told-2 : tie.Need-enum-told-2
-enum-told-2 c = search needs
-
-enum-told-3 : tie.Need-enum-told-3
-enum-told-3 c = search needs
-
-enum-told-4 : tie.Need-enum-told-4
-enum-told-4 c = search needs
-
-add-result : tie.Need-add-result
-add-result c = search needs
-
-mul-result : tie.Need-mul-result
-mul-result c = search needs
-
 returns : tie.Need-returns
 unfolding cellWords
 returns c = rw (c .enum-told .given .1)
@@ -43,11 +28,11 @@ size-spec =
     tie.close
     (tie.spec
     enum-told
-    enum-told-2
-    enum-told-3
-    enum-told-4
-    add-result
-    mul-result
+    (λ c. search needs)
+    (λ c. search needs)
+    (λ c. search needs)
+    (λ c. search needs)
+    (λ c. search needs)
     returns
     returns-2
     returns-3

@@ -12,23 +12,11 @@ use Rattle.cell.proofs.step.Tie as tie
 enum-told : tie.Need-enum-told
 enum-told c = search needs
 
-larger-requires : tie.Need-larger-requires
-larger-requires c κs = search needs
-
 returns : tie.Need-returns
 returns c =
     let e = c .before in
     rw (e .before .enum-told .given .1)
     (step-answers (is-either _ _ ∙ eq-eqb _ _ (e .if1 .taken)) (either-stepped _ _ _ _ _ _ (c .larger .ensures)))
-
-enum-told-2 : tie.Need-enum-told-2
-enum-told-2 c = search needs
-
-both-step-requires : tie.Need-both-step-requires
-both-step-requires c κs = search needs
-
-same-length : tie.Need-same-length
-same-length c = search needs
 
 returns-2 : tie.Need-returns-2
 returns-2 c =
@@ -36,35 +24,17 @@ returns-2 c =
     let e = d .before .before in
     rw (e .before .enum-told2 .given .1) (step-answers (is-both _ _ ∙ eq-eqb _ _ (e .if2 .taken)) (d .both-step .ensures _))
 
-enum-told-3 : tie.Need-enum-told-3
-enum-told-3 c = search needs
-
-without-step-requires : tie.Need-without-step-requires
-without-step-requires c κs = search needs
-
-same-length-2 : tie.Need-same-length-2
-same-length-2 c = search needs
-
 returns-3 : tie.Need-returns-3
 returns-3 c =
     let d = c .before .before in
     let e = d .before .before in
     rw (e .before .enum-told3 .given .1) (step-answers (is-without _ _ ∙ eq-eqb _ _ (e .if3 .taken)) (d .without-step .ensures _ _))
 
-enum-told-4 : tie.Need-enum-told-4
-enum-told-4 c = search needs
-
-is-chain-requires : tie.Need-is-chain-requires
-is-chain-requires c κs = search needs
-
 chain-step-requires : tie.Need-chain-step-requires
 chain-step-requires c κs =
     let e = c .before in
     let u = is-chain-ready _ _ (sym (e .before .is-chain .ensures) ∙ e .if4 .taken) in
     record { range = omega arith; few = u .0; words = u .1 }
-
-same-length-3 : tie.Need-same-length-3
-same-length-3 c = search needs
 
 returns-4 : tie.Need-returns-4
 returns-4 c =
@@ -89,20 +59,20 @@ step-spec =
     tie.close
     (tie.spec
     enum-told
-    larger-requires
+    (λ c κs. search needs)
     returns
-    enum-told-2
-    both-step-requires
-    same-length
+    (λ c. search needs)
+    (λ c κs. search needs)
+    (λ c. search needs)
     returns-2
-    enum-told-3
-    without-step-requires
-    same-length-2
+    (λ c. search needs)
+    (λ c κs. search needs)
+    (λ c. search needs)
     returns-3
-    enum-told-4
-    is-chain-requires
+    (λ c. search needs)
+    (λ c κs. search needs)
     chain-step-requires
-    same-length-3
+    (λ c. search needs)
     returns-4
     returns-5
     returns-6

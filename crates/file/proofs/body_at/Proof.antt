@@ -10,32 +10,11 @@ use borrow.Author.Needs.{needs}
 use Rattle.file.proofs.body_at.Statement.{statement}
 use Rattle.file.proofs.body_at.Tie as tie
 
-pattern-count-requires : tie.Need-pattern-count-requires
-pattern-count-requires c κs = search needs
-
 returns : tie.Need-returns
 returns c = body-past _ _ (omega (arith, c .before .pattern-count .ensures .0))
 
-mul-at : tie.Need-mul-at
-mul-at c = search needs
-
-add-at : tie.Need-add-at
-add-at c = search needs
-
-add-if2 : tie.Need-add-if2
-add-if2 c = search needs
-
 returns-2 : tie.Need-returns-2
 returns-2 c = body-cut _ _ (omega arith)
-
-sub-place-in : tie.Need-sub-place-in
-sub-place-in c = search needs
-
-part-place-in-start : tie.Need-part-place-in-start
-part-place-in-start c = search needs
-
-part-place-in-end : tie.Need-part-place-in-end
-part-place-in-end c = search needs
 
 place-in-requires : tie.Need-place-in-requires
 place-in-requires c κs =
@@ -55,14 +34,14 @@ pub body-at-spec : {M : Type 1} → statement M
 body-at-spec =
     tie.close
     (tie.spec
-    pattern-count-requires
+    (λ c κs. search needs)
     returns
-    mul-at
-    add-at
-    add-if2
+    (λ c. search needs)
+    (λ c. search needs)
+    (λ c. search needs)
     returns-2
-    sub-place-in
-    part-place-in-start
-    part-place-in-end
+    (λ c. search needs)
+    (λ c. search needs)
+    (λ c. search needs)
     place-in-requires
     returns-3)

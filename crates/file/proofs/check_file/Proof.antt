@@ -11,24 +11,6 @@ use Rattle.file.proofs.check_file.Tie as tie
 returns : tie.Need-returns
 returns c = check-none _ (c .if1 .taken)
 
-shared-slice-read-wide : tie.Need-shared-slice-read-wide
-shared-slice-read-wide c = search needs
-
-wide-requires : tie.Need-wide-requires
-wide-requires c κs = search needs
-
-sub-check-rest : tie.Need-sub-check-rest
-sub-check-rest c = search needs
-
-part-check-rest-start : tie.Need-part-check-rest-start
-part-check-rest-start c = search needs
-
-part-check-rest-end : tie.Need-part-check-rest-end
-part-check-rest-end c = search needs
-
-check-rest-requires : tie.Need-check-rest-requires
-check-rest-requires c κs = search needs
-
 returns-2 : tie.Need-returns-2
 returns-2 c =
     let w = c .before .before in
@@ -40,10 +22,10 @@ check-file-spec =
     tie.close
     (tie.spec
     returns
-    shared-slice-read-wide
-    wide-requires
-    sub-check-rest
-    part-check-rest-start
-    part-check-rest-end
-    check-rest-requires
+    (λ c. search needs)
+    (λ c κs. search needs)
+    (λ c. search needs)
+    (λ c. search needs)
+    (λ c. search needs)
+    (λ c κs. search needs)
     returns-2)

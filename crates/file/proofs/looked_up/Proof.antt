@@ -9,23 +9,8 @@ use borrow.Author.Needs.{needs}
 use Rattle.file.proofs.looked_up.Statement.{statement}
 use Rattle.file.proofs.looked_up.Tie as tie
 
-check-file-requires : tie.Need-check-file-requires
-check-file-requires c κs = search needs
-
-enum-known-r : tie.Need-enum-known-r
-enum-known-r c = search needs
-
 enum-told : tie.Need-enum-told
 enum-told c = search needs
-
-check-file-requires-2 : tie.Need-check-file-requires-2
-check-file-requires-2 c κs = search needs
-
-enum-known-r-2 : tie.Need-enum-known-r-2
-enum-known-r-2 c = search needs
-
-enum-told-2 : tie.Need-enum-told-2
-enum-told-2 c = search needs
 
 -- each file is sound wherever it was not refused
 site-sound : (m : tie.After-enum-told) → checkOf (m .before .before .before .before .before .before .args .site .now) ≡ Sound
@@ -45,20 +30,8 @@ site-lacks o = sym (o .before .before .find .ensures) ∙ o .enum-told3 .given .
 find-requires : tie.Need-find-requires
 find-requires c κs = site-sound (c .before .before .before)
 
-enum-known-from : tie.Need-enum-known-from
-enum-known-from c = search needs
-
-enum-told-3 : tie.Need-enum-told-3
-enum-told-3 c = search needs
-
 find-requires-2 : tie.Need-find-requires-2
 find-requires-2 c κs = fleet-sound (c .before .before .before)
-
-enum-known-from-2 : tie.Need-enum-known-from-2
-enum-known-from-2 c = search needs
-
-enum-told-4 : tie.Need-enum-told-4
-enum-told-4 c = search needs
 
 returns : tie.Need-returns
 returns c =
@@ -96,18 +69,18 @@ pub looked-up-spec : {M : Type 1} → statement M
 looked-up-spec =
     tie.close
     (tie.spec
-    check-file-requires
-    enum-known-r
+    (λ c κs. search needs)
+    (λ c. search needs)
     enum-told
-    check-file-requires-2
-    enum-known-r-2
-    enum-told-2
+    (λ c κs. search needs)
+    (λ c. search needs)
+    (λ c. search needs)
     find-requires
-    enum-known-from
-    enum-told-3
+    (λ c. search needs)
+    (λ c. search needs)
     find-requires-2
-    enum-known-from-2
-    enum-told-4
+    (λ c. search needs)
+    (λ c. search needs)
     returns
     returns-2
     returns-3

@@ -10,12 +10,6 @@ use borrow.Author.Needs.{needs}
 use Rattle.file.proofs.lookup.Statement.{statement}
 use Rattle.file.proofs.lookup.Tie as tie
 
-looked-up-requires : tie.Need-looked-up-requires
-looked-up-requires c κs = search needs
-
-enum-known-whose : tie.Need-enum-known-whose
-enum-known-whose c = search needs
-
 enum-told : tie.Need-enum-told
 enum-told c = search needs
 
@@ -30,53 +24,14 @@ found w x e =
 add-result : tie.Need-add-result
 add-result c = omega (arith, finding-found _ _ _ _ _ _ (found (c .before .before .before) Site (c .enum-told .given .1)) .within)
 
-sub-result : tie.Need-sub-result
-sub-result c = search needs
-
-part-result-start : tie.Need-part-result-start
-part-result-start c = search needs
-
 part-result-end : tie.Need-part-result-end
 part-result-end c = finding-found _ _ _ _ _ _ (found (c .before .before .before) Site (c .enum-told .given .1)) .within
-
-enum-told-2 : tie.Need-enum-told-2
-enum-told-2 c = search needs
 
 add-result-2 : tie.Need-add-result-2
 add-result-2 c = omega (arith, finding-found _ _ _ _ _ _ (found (c .before .before .before) Fleet (c .enum-told2 .given .1)) .within)
 
-sub-result-2 : tie.Need-sub-result-2
-sub-result-2 c = search needs
-
-part-result-start-2 : tie.Need-part-result-start-2
-part-result-start-2 c = search needs
-
 part-result-end-2 : tie.Need-part-result-end-2
 part-result-end-2 c = finding-found _ _ _ _ _ _ (found (c .before .before .before) Fleet (c .enum-told2 .given .1)) .within
-
-enum-told-3 : tie.Need-enum-told-3
-enum-told-3 c = search needs
-
-sub-result-3 : tie.Need-sub-result-3
-sub-result-3 c = search needs
-
-part-result-start-3 : tie.Need-part-result-start-3
-part-result-start-3 c = search needs
-
-part-result-end-3 : tie.Need-part-result-end-3
-part-result-end-3 c = search needs
-
-enum-told-4 : tie.Need-enum-told-4
-enum-told-4 c = search needs
-
-sub-result-4 : tie.Need-sub-result-4
-sub-result-4 c = search needs
-
-part-result-start-4 : tie.Need-part-result-start-4
-part-result-start-4 c = search needs
-
-part-result-end-4 : tie.Need-part-result-end-4
-part-result-end-4 c = search needs
 
 returns : tie.Need-returns
 returns c = let t = c .before in part-found _ _ _ _ _ _ (found (t .before .before .before) Site (t .enum-told .given .1))
@@ -98,26 +53,26 @@ pub lookup-spec : {M : Type 1} → statement M
 lookup-spec =
     tie.close
     (tie.spec
-    looked-up-requires
-    enum-known-whose
+    (λ c κs. search needs)
+    (λ c. search needs)
     enum-told
     add-result
-    sub-result
-    part-result-start
+    (λ c. search needs)
+    (λ c. search needs)
     part-result-end
-    enum-told-2
+    (λ c. search needs)
     add-result-2
-    sub-result-2
-    part-result-start-2
+    (λ c. search needs)
+    (λ c. search needs)
     part-result-end-2
-    enum-told-3
-    sub-result-3
-    part-result-start-3
-    part-result-end-3
-    enum-told-4
-    sub-result-4
-    part-result-start-4
-    part-result-end-4
+    (λ c. search needs)
+    (λ c. search needs)
+    (λ c. search needs)
+    (λ c. search needs)
+    (λ c. search needs)
+    (λ c. search needs)
+    (λ c. search needs)
+    (λ c. search needs)
     returns
     returns-2
     returns-3

@@ -13,12 +13,6 @@ use borrow.Author.Needs.{needs}
 use Rattle.file.proofs.write_file.Statement.{statement}
 use Rattle.file.proofs.write_file.Tie as tie
 
-check-parts-requires : tie.Need-check-parts-requires
-check-parts-requires c κs = search needs
-
-enum-known-r : tie.Need-enum-known-r
-enum-known-r c = search needs
-
 enum-told : tie.Need-enum-told
 enum-told c = search needs
 
@@ -55,15 +49,6 @@ returns c = wrote-short _ _ _ _ (checked (c .before)) (c .if1 .taken)
 cast-file : tie.Need-cast-file
 cast-file c = omega (arith, few (c .before))
 
-slice-write-file : tie.Need-slice-write-file
-slice-write-file c = search needs
-
-sub-write-contents : tie.Need-sub-write-contents
-sub-write-contents c = search needs
-
-part-write-contents-start : tie.Need-part-write-contents-start
-part-write-contents-start c = search needs
-
 part-write-contents-end : tie.Need-part-write-contents-end
 part-write-contents-end c = omega (arith, long (c .before))
 
@@ -75,17 +60,8 @@ write-contents-requires c κs =
     let stored = set (a .file .now) 0 (length (a .counts .now)) in
     record { few = p .most; named = p .full; long = mid-len 1 (1 + 12 * length (a .counts .now)) stored (omega (arith, long s)) ∙ omega arith }
 
-sub-copy : tie.Need-sub-copy
-sub-copy c = search needs
-
-part-copy-start : tie.Need-part-copy-start
-part-copy-start c = search needs
-
 part-copy-end : tie.Need-part-copy-end
 part-copy-end c = omega (arith, long (c .before .before .before .before .before))
-
-copy-requires : tie.Need-copy-requires
-copy-requires c κs = search needs
 
 returns-2 : tie.Need-returns-2
 returns-2 c =
@@ -109,23 +85,23 @@ pub write-file-spec : {M : Type 1} → statement M
 write-file-spec =
     tie.close
     (tie.spec
-    check-parts-requires
-    enum-known-r
+    (λ c κs. search needs)
+    (λ c. search needs)
     enum-told
     mul-bodies-at
     add-bodies-at
     add-needed
     returns
     cast-file
-    slice-write-file
-    sub-write-contents
-    part-write-contents-start
+    (λ c. search needs)
+    (λ c. search needs)
+    (λ c. search needs)
     part-write-contents-end
     write-contents-requires
-    sub-copy
-    part-copy-start
+    (λ c. search needs)
+    (λ c. search needs)
     part-copy-end
-    copy-requires
+    (λ c κs. search needs)
     returns-2
     same-length
     returns-3)

@@ -4,12 +4,6 @@ use borrow.Author.Needs.{needs}
 use Rattle.rules.proofs.occurs.Statement.{statement}
 use Rattle.rules.proofs.occurs.Tie as tie
 
-cast-result : tie.Need-cast-result
-cast-result c = search needs
-
-shr-result : tie.Need-shr-result
-shr-result c = search needs
-
 returns : tie.Need-returns
 returns c = tested (c .before .args .events) (c .before .args .kind)
 
@@ -17,4 +11,4 @@ returns-2 : tie.Need-returns-2
 returns-2 c = tested-high (c .before .args .events) 32 (c .before .args .kind) (c .before .fits .events .fits) (c .if1 .left)
 
 pub occurs-spec : {M : Type 1} → statement M
-occurs-spec = tie.close (tie.spec cast-result shr-result returns returns-2)
+occurs-spec = tie.close (tie.spec (λ c. search needs) (λ c. search needs) returns returns-2)

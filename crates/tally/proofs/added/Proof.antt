@@ -15,17 +15,11 @@ returns-2 : tie.Need-returns-2
 unfolding addedTo
 returns-2 c = simp (le-ltb _ _ (c .before .if1 .left), lt-ltb _ _ (c .if2 .taken))
 
-add-long : tie.Need-add-long
-add-long c = search needs
-
 returns-3 : tie.Need-returns-3
 unfolding addedTo
 returns-3 c =
     let e2 = c .before .before in
     simp (le-ltb _ _ (e2 .before .if1 .left), le-ltb _ _ (e2 .if2 .left), le-leb (2 ^ 64) (e2 .before .before .args .tally .windows + 1) (omega arith))
-
-sub-if4 : tie.Need-sub-if4
-sub-if4 c = search needs
 
 returns-4 : tie.Need-returns-4
 unfolding addedTo
@@ -39,12 +33,6 @@ returns-4 c =
       lt-leb (2 ^ 64) (a .tally .windows + 1) w,
       le-leb (2 ^ 64) (a .tally .ticks + (a .end - a .start + 1)) (omega arith),
     )
-
-add-t8 : tie.Need-add-t8
-add-t8 c = search needs
-
-add-t11 : tie.Need-add-t11
-add-t11 c = search needs
 
 returns-5 : tie.Need-returns-5
 unfolding addedTo
@@ -62,4 +50,4 @@ returns-5 c =
 pub added-spec : {M : Type 1} → statement M
 added-spec =
     tie.close
-    (tie.spec returns returns-2 add-long returns-3 sub-if4 returns-4 add-t8 add-t11 returns-5)
+    (tie.spec returns returns-2 (λ c. search needs) returns-3 (λ c. search needs) returns-4 (λ c. search needs) (λ c. search needs) returns-5)

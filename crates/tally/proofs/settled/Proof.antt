@@ -5,18 +5,6 @@ use Rattle.tally.specs.Tallied.{statusOf, after}
 use Rattle.tally.proofs.settled.Statement.{statement}
 use Rattle.tally.proofs.settled.Tie as tie
 
-added-requires : tie.Need-added-requires
-added-requires c κs = search needs
-
-enum-known-more : tie.Need-enum-known-more
-enum-known-more c = search needs
-
-enum-known-r : tie.Need-enum-known-r
-enum-known-r c = search needs
-
-packed-requires : tie.Need-packed-requires
-packed-requires c κs = search needs
-
 returns : tie.Need-returns
 returns c =
     let a = c .before .before .before in
@@ -30,4 +18,4 @@ returns-2 c =
     (c .packed .ensures ∙ ap statusOf e, ap (after (a .before .args .tally)) e)
 
 pub settled-spec : {M : Type 1} → statement M
-settled-spec = tie.close (tie.spec added-requires enum-known-more enum-known-r packed-requires returns returns-2)
+settled-spec = tie.close (tie.spec (λ c κs. search needs) (λ c. search needs) (λ c. search needs) (λ c κs. search needs) returns returns-2)

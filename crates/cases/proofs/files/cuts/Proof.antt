@@ -11,24 +11,6 @@ Inv-loop n₀ n = n ≤ 46
 abbrev μ-loop : tie.MeasureT-loop
 μ-loop n₀ n = 46 - n
 
-loop-holds : tie.Need-loop-holds Inv-loop μ-loop
-loop-holds c = omega arith
-
-cut-requires : tie.Need-cut-requires Inv-loop μ-loop
-cut-requires c κs = search needs
-
-add-n : tie.Need-add-n Inv-loop μ-loop
-add-n c = omega arith
-
-loop-less : tie.Need-loop-less Inv-loop μ-loop
-loop-less c = omega arith
-
-loop-again : tie.Need-loop-again Inv-loop μ-loop
-loop-again c = omega arith
-
-returns : tie.Need-returns Inv-loop μ-loop
-returns c = search needs
-
 pub cuts-spec : {M : Type 1} → statement M
 cuts-spec =
-    tie.close (tie.spec Inv-loop μ-loop loop-holds cut-requires add-n loop-less loop-again returns)
+    tie.close (tie.spec Inv-loop μ-loop (λ c. omega arith) (λ c κs. search needs) (λ c. omega arith) (λ c. omega arith) (λ c. omega arith) (λ c. search needs))

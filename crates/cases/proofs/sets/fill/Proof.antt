@@ -13,31 +13,13 @@ Inv-loop bodies₀ at₀ bodies at = (length bodies ≡ length bodies₀) × (at
 abbrev μ-loop : tie.MeasureT-loop
 μ-loop bodies₀ at₀ bodies at = length bodies - at
 
-loop-holds : tie.Need-loop-holds Inv-loop μ-loop
-loop-holds c = search needs
-
-body-byte-requires : tie.Need-body-byte-requires Inv-loop μ-loop
-body-byte-requires c κs = search needs
-
-slice-write-bodies : tie.Need-slice-write-bodies Inv-loop μ-loop
-slice-write-bodies c = omega arith
-
-add-at : tie.Need-add-at Inv-loop μ-loop
-add-at c = omega arith
-
 loop-less : tie.Need-loop-less Inv-loop μ-loop
 loop-less c = simp length-set (omega arith)
 
 loop-again : tie.Need-loop-again Inv-loop μ-loop
 loop-again c = (simp length-set (omega arith), simp length-set (omega arith))
 
-same-length : tie.Need-same-length Inv-loop μ-loop
-same-length c = omega arith
-
-returns : tie.Need-returns Inv-loop μ-loop
-returns c = search needs
-
 pub fill-spec : {M : Type 1} → statement M
 fill-spec =
     tie.close
-    (tie.spec Inv-loop μ-loop loop-holds body-byte-requires slice-write-bodies add-at loop-less loop-again same-length returns)
+    (tie.spec Inv-loop μ-loop (λ c. search needs) (λ c κs. search needs) (λ c. omega arith) (λ c. omega arith) loop-less loop-again (λ c. omega arith) (λ c. search needs))

@@ -10,24 +10,6 @@ returns : tie.Need-returns
 unfolding cellInForm sizeFits
 returns c = rw (ne-eqb _ _ (c .if1 .taken))
 
-shared-slice-read-pair-fits : tie.Need-shared-slice-read-pair-fits
-shared-slice-read-pair-fits c = search needs
-
-shared-slice-read-pair-fits-2 : tie.Need-shared-slice-read-pair-fits-2
-shared-slice-read-pair-fits-2 c = search needs
-
-pair-fits-requires : tie.Need-pair-fits-requires
-pair-fits-requires c κs = search needs
-
-shared-slice-read-pair-fits-3 : tie.Need-shared-slice-read-pair-fits-3
-shared-slice-read-pair-fits-3 c = search needs
-
-shared-slice-read-pair-fits-4 : tie.Need-shared-slice-read-pair-fits-4
-shared-slice-read-pair-fits-4 c = search needs
-
-pair-fits-requires-2 : tie.Need-pair-fits-requires-2
-pair-fits-requires-2 c κs = search needs
-
 returns-2 : tie.Need-returns-2
 unfolding cellInForm sizeFits cellFits
 returns-2 c =
@@ -46,11 +28,11 @@ both-fits-spec =
     tie.close
     (tie.spec
     returns
-    shared-slice-read-pair-fits
-    shared-slice-read-pair-fits-2
-    pair-fits-requires
-    shared-slice-read-pair-fits-3
-    shared-slice-read-pair-fits-4
-    pair-fits-requires-2
+    (λ c. search needs)
+    (λ c. search needs)
+    (λ c κs. search needs)
+    (λ c. search needs)
+    (λ c. search needs)
+    (λ c κs. search needs)
     returns-2
     returns-3)

@@ -17,17 +17,11 @@ size c = sym (c .before .whole-pairs .ensures) ∙ c .if1 .taken
 paired : (c : tie.Then1) → Paired (length (c .before .before .before .args .cell .now))
 paired c = chain-paired (length (c .before .before .before .args .cell .now)) (size c)
 
-whole-pairs-requires : tie.Need-whole-pairs-requires
-whole-pairs-requires c κs = search needs
-
 shared-slice-read-pair-fits : tie.Need-shared-slice-read-pair-fits
 shared-slice-read-pair-fits c = omega (arith, paired (c .before) .some)
 
 shared-slice-read-pair-fits-2 : tie.Need-shared-slice-read-pair-fits-2
 shared-slice-read-pair-fits-2 c = omega (arith, paired (c .before .before) .some)
-
-pair-fits-requires : tie.Need-pair-fits-requires
-pair-fits-requires c κs = search needs
 
 kept-fits-requires : tie.Need-kept-fits-requires
 kept-fits-requires c κs = paired (c .before .before .before .before)
@@ -53,10 +47,10 @@ pub chain-fits-spec : {M : Type 1} → statement M
 chain-fits-spec =
     tie.close
     (tie.spec
-    whole-pairs-requires
+    (λ c κs. search needs)
     shared-slice-read-pair-fits
     shared-slice-read-pair-fits-2
-    pair-fits-requires
+    (λ c κs. search needs)
     kept-fits-requires
     returns
     returns-2

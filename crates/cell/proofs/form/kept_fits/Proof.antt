@@ -20,15 +20,6 @@ abbrev μ-loop : tie.MeasureT-loop
 loop-holds : tie.Need-loop-holds Inv-loop μ-loop
 loop-holds c = (search needs, search needs, refl)
 
-mul-start : tie.Need-mul-start Inv-loop μ-loop
-mul-start c = search needs
-
-shared-slice-read-start : tie.Need-shared-slice-read-start Inv-loop μ-loop
-shared-slice-read-start c = search needs
-
-all-zero-requires : tie.Need-all-zero-requires Inv-loop μ-loop
-all-zero-requires c κs = search needs
-
 returns : tie.Need-returns Inv-loop μ-loop
 returns c =
     let k = c .before .before .before .before in
@@ -41,24 +32,6 @@ returns-2 c =
     let k = c .before .before .before .before in
     sym (kept-fits-low _ (k .loop .last) (k .before .before .args .cell .now) (k .loop .at) (omega arith) (c .before .if1 .left) (c .if2 .taken))
     ∙ k .loop .inv .2
-
-add-pair-fits : tie.Need-add-pair-fits Inv-loop μ-loop
-add-pair-fits c = search needs
-
-mul-pair-fits : tie.Need-mul-pair-fits Inv-loop μ-loop
-mul-pair-fits c = search needs
-
-shared-slice-read-pair-fits : tie.Need-shared-slice-read-pair-fits Inv-loop μ-loop
-shared-slice-read-pair-fits c = search needs
-
-pair-fits-requires : tie.Need-pair-fits-requires Inv-loop μ-loop
-pair-fits-requires c κs = search needs
-
-add-at : tie.Need-add-at Inv-loop μ-loop
-add-at c = search needs
-
-loop-less : tie.Need-loop-less Inv-loop μ-loop
-loop-less c = search needs
 
 loop-again : tie.Need-loop-again Inv-loop μ-loop
 loop-again c =
@@ -88,17 +61,17 @@ kept-fits-spec =
     Inv-loop
     μ-loop
     loop-holds
-    mul-start
-    shared-slice-read-start
-    all-zero-requires
+    (λ c. search needs)
+    (λ c. search needs)
+    (λ c κs. search needs)
     returns
     returns-2
-    add-pair-fits
-    mul-pair-fits
-    shared-slice-read-pair-fits
-    pair-fits-requires
-    add-at
-    loop-less
+    (λ c. search needs)
+    (λ c. search needs)
+    (λ c. search needs)
+    (λ c κs. search needs)
+    (λ c. search needs)
+    (λ c. search needs)
     loop-again
     returns-3
     returns-4)

@@ -9,12 +9,9 @@ returns : tie.Need-returns
 unfolding cellInForm sizeFits
 returns c = rw (ne-eqb _ _ (c .if1 .taken))
 
-shared-slice-read-result : tie.Need-shared-slice-read-result
-shared-slice-read-result c = search needs
-
 returns-2 : tie.Need-returns-2
 unfolding cellInForm sizeFits cellFits
 returns-2 c = rw (eq-eqb _ _ (c .before .if1 .left))
 
 pub without-fits-spec : {M : Type 1} → statement M
-without-fits-spec = tie.close (tie.spec returns shared-slice-read-result returns-2)
+without-fits-spec = tie.close (tie.spec returns (λ c. search needs) returns-2)

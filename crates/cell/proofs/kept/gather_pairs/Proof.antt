@@ -23,27 +23,12 @@ loop-holds c =
     let h = c .before .before .before .args in
     (omega arith, refl, gather-begin (h .kept .now) (spansFrom (h .cell .now) 0 (h .pairs)) (h .starts .now))
 
-sub-i : tie.Need-sub-i Inv-loop μ-loop
-sub-i c = search needs
-
-mul-choose-pair : tie.Need-mul-choose-pair Inv-loop μ-loop
-mul-choose-pair c = search needs
-
-shared-slice-read-choose-pair : tie.Need-shared-slice-read-choose-pair Inv-loop μ-loop
-shared-slice-read-choose-pair c = search needs
-
-choose-pair-requires : tie.Need-choose-pair-requires Inv-loop μ-loop
-choose-pair-requires c κs = search needs
-
 keep-pair-requires : tie.Need-keep-pair-requires Inv-loop μ-loop
 keep-pair-requires c κs =
     let k = c .before .before .before .before in
     let h = k .before .before .before .before .args in
     insert-ready (k .loop .kept) (k .loop .count) (spansFrom (h .cell .now) 0 (h .pairs)) (drop (k .loop .i) (h .starts .now)) (omega arith)
     (k .loop .inv .2)
-
-loop-less : tie.Need-loop-less Inv-loop μ-loop
-loop-less c = search needs
 
 loop-again : tie.Need-loop-again Inv-loop μ-loop
 loop-again c =
@@ -56,9 +41,6 @@ loop-again c =
           ∙ gather-turn (spansFrom (h .cell .now) 0 (h .pairs)) (h .starts .now) (k .loop .i) _ _ (omega arith) (omega arith)
           (d .before .choose-pair .ensures) (k .loop .inv .2),
     )
-
-same-length : tie.Need-same-length Inv-loop μ-loop
-same-length c = search needs
 
 returns : tie.Need-returns Inv-loop μ-loop
 returns c =
@@ -76,12 +58,12 @@ gather-pairs-spec =
     Inv-loop
     μ-loop
     loop-holds
-    sub-i
-    mul-choose-pair
-    shared-slice-read-choose-pair
-    choose-pair-requires
+    (λ c. search needs)
+    (λ c. search needs)
+    (λ c. search needs)
+    (λ c κs. search needs)
     keep-pair-requires
-    loop-less
+    (λ c. search needs)
     loop-again
-    same-length
+    (λ c. search needs)
     returns)

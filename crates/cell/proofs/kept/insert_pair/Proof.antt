@@ -20,24 +20,6 @@ abbrev μ-loop : tie.MeasureT-loop
 loop-holds : tie.Need-loop-holds Inv-loop μ-loop
 loop-holds c = carry-start (c .before .args .kept .now) (c .before .args .count) (spanOf (c .before .args .pair)) (c .before .pre)
 
-mul-at : tie.Need-mul-at Inv-loop μ-loop
-mul-at c = search needs
-
-add-i : tie.Need-add-i Inv-loop μ-loop
-add-i c = search needs
-
-pair-at-requires : tie.Need-pair-at-requires Inv-loop μ-loop
-pair-at-requires c κs = search needs
-
-better-of-requires : tie.Need-better-of-requires Inv-loop μ-loop
-better-of-requires c κs = search needs
-
-put-pair-requires : tie.Need-put-pair-requires Inv-loop μ-loop
-put-pair-requires c κs = search needs
-
-same-length : tie.Need-same-length Inv-loop μ-loop
-same-length c = search needs
-
 returns : tie.Need-returns Inv-loop μ-loop
 returns c =
     let d = c .before .before in
@@ -46,12 +28,6 @@ returns c =
     let k = g .before .before .before in
     carry-met (k .loop .inv) (spanOf (g .pair-at .result)) _ (omega arith) (omega arith) (g .pair-at .ensures) (f .if1 .taken)
     (d .put-pair .ensures ∙ ap (putSpan (k .loop .kept) (2 * k .loop .i)) (d .before .better-of .ensures))
-
-put-pair-requires-2 : tie.Need-put-pair-requires-2 Inv-loop μ-loop
-put-pair-requires-2 c κs = search needs
-
-loop-less : tie.Need-loop-less Inv-loop μ-loop
-loop-less c = search needs
 
 loop-again : tie.Need-loop-again Inv-loop μ-loop
 loop-again c =
@@ -62,27 +38,12 @@ loop-again c =
     carry-later (k .loop .inv) (spanOf (g .pair-at .result)) _ (omega arith) (omega arith) (g .pair-at .ensures) (f .if2 .taken)
     (d .put-pair2 .ensures)
 
-loop-less-2 : tie.Need-loop-less-2 Inv-loop μ-loop
-loop-less-2 c = search needs
-
 loop-again-2 : tie.Need-loop-again-2 Inv-loop μ-loop
 loop-again-2 c =
     let f = c .before .before .before in
     let g = f .before .before .before in
     let k = g .before .before .before in
     carry-past (k .loop .inv) (spanOf (g .pair-at .result)) (omega arith) (g .pair-at .ensures) (f .if1 .left) (c .if2 .left)
-
-mul-put-pair : tie.Need-mul-put-pair Inv-loop μ-loop
-mul-put-pair c = search needs
-
-put-pair-requires-3 : tie.Need-put-pair-requires-3 Inv-loop μ-loop
-put-pair-requires-3 c κs = search needs
-
-add-result : tie.Need-add-result Inv-loop μ-loop
-add-result c = search needs
-
-same-length-2 : tie.Need-same-length-2 Inv-loop μ-loop
-same-length-2 c = search needs
 
 returns-2 : tie.Need-returns-2 Inv-loop μ-loop
 returns-2 c =
@@ -97,20 +58,20 @@ insert-pair-spec =
     Inv-loop
     μ-loop
     loop-holds
-    mul-at
-    add-i
-    pair-at-requires
-    better-of-requires
-    put-pair-requires
-    same-length
+    (λ c. search needs)
+    (λ c. search needs)
+    (λ c κs. search needs)
+    (λ c κs. search needs)
+    (λ c κs. search needs)
+    (λ c. search needs)
     returns
-    put-pair-requires-2
-    loop-less
+    (λ c κs. search needs)
+    (λ c. search needs)
     loop-again
-    loop-less-2
+    (λ c. search needs)
     loop-again-2
-    mul-put-pair
-    put-pair-requires-3
-    add-result
-    same-length-2
+    (λ c. search needs)
+    (λ c κs. search needs)
+    (λ c. search needs)
+    (λ c. search needs)
     returns-2)

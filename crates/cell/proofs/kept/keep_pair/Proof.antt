@@ -4,12 +4,6 @@ use borrow.Author.Needs.{needs}
 use Rattle.cell.proofs.kept.keep_pair.Statement.{statement}
 use Rattle.cell.proofs.kept.keep_pair.Tie as tie
 
-insert-pair-requires : tie.Need-insert-pair-requires
-insert-pair-requires c κs = search needs
-
-same-length : tie.Need-same-length
-same-length c = search needs
-
 returns : tie.Need-returns
 returns c =
     let d = c .before .before in
@@ -19,4 +13,4 @@ returns-2 : tie.Need-returns-2
 returns-2 c = keep-none _ _ _ (c .if1 .left)
 
 pub keep-pair-spec : {M : Type 1} → statement M
-keep-pair-spec = tie.close (tie.spec insert-pair-requires same-length returns returns-2)
+keep-pair-spec = tie.close (tie.spec (λ c κs. search needs) (λ c. search needs) returns returns-2)

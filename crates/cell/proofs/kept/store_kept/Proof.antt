@@ -23,30 +23,6 @@ loop-holds c =
     let h = c .before .before .args in
     (search needs, refl, paste-zero (h .cell .now) 2 (newWords (h .cell .now) (h .kept .now) (h .count)))
 
-add-loop : tie.Need-add-loop Inv-loop μ-loop
-add-loop c = search needs
-
-mul-word-or-zero : tie.Need-mul-word-or-zero Inv-loop μ-loop
-mul-word-or-zero c = search needs
-
-word-or-zero-requires : tie.Need-word-or-zero-requires Inv-loop μ-loop
-word-or-zero-requires c κs = search needs
-
-add-cell : tie.Need-add-cell Inv-loop μ-loop
-add-cell c = search needs
-
-mul-cell : tie.Need-mul-cell Inv-loop μ-loop
-mul-cell c = search needs
-
-slice-write-cell : tie.Need-slice-write-cell Inv-loop μ-loop
-slice-write-cell c = search needs
-
-add-i : tie.Need-add-i Inv-loop μ-loop
-add-i c = search needs
-
-loop-less : tie.Need-loop-less Inv-loop μ-loop
-loop-less c = search needs
-
 loop-again : tie.Need-loop-again Inv-loop μ-loop
 loop-again c =
     let k = c .before .before in
@@ -56,9 +32,6 @@ loop-again c =
       store-word (h .args .cell .now) (h .args .kept .now) (h .args .count) (h .pre) (k .loop .cell) (k .loop .i) _ (omega arith)
           (c .word-or-zero .ensures) (k .loop .inv .2),
     )
-
-same-length : tie.Need-same-length Inv-loop μ-loop
-same-length c = search needs
 
 returns : tie.Need-returns Inv-loop μ-loop
 returns c =
@@ -73,14 +46,14 @@ store-kept-spec =
     Inv-loop
     μ-loop
     loop-holds
-    add-loop
-    mul-word-or-zero
-    word-or-zero-requires
-    add-cell
-    mul-cell
-    slice-write-cell
-    add-i
-    loop-less
+    (λ c. search needs)
+    (λ c. search needs)
+    (λ c κs. search needs)
+    (λ c. search needs)
+    (λ c. search needs)
+    (λ c. search needs)
+    (λ c. search needs)
+    (λ c. search needs)
     loop-again
-    same-length
+    (λ c. search needs)
     returns)

@@ -8,12 +8,6 @@ use borrow.Author.Needs.{needs}
 use Rattle.cell.proofs.kept.word_or_zero.Statement.{statement}
 use Rattle.cell.proofs.kept.word_or_zero.Tie as tie
 
-mul-result : tie.Need-mul-result
-mul-result c = search needs
-
-shared-slice-read-result : tie.Need-shared-slice-read-result
-shared-slice-read-result c = search needs
-
 returns : tie.Need-returns
 returns c =
     let h = c .before .before .args in
@@ -25,4 +19,4 @@ returns-2 c =
     sym (pick-no (decLt (h .i) (h .n)) (getD (h .words .now) (h .i) 0) 0 (λ k. omega arith))
 
 pub word-or-zero-spec : {M : Type 1} → statement M
-word-or-zero-spec = tie.close (tie.spec mul-result shared-slice-read-result returns returns-2)
+word-or-zero-spec = tie.close (tie.spec (λ c. search needs) (λ c. search needs) returns returns-2)

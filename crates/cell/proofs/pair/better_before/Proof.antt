@@ -9,9 +9,6 @@ use borrow.Author.Needs.{needs}
 use Rattle.cell.proofs.pair.better_before.Statement.{statement}
 use Rattle.cell.proofs.pair.better_before.Tie as tie
 
-better-of-requires : tie.Need-better-of-requires
-better-of-requires c κs = search needs
-
 returns : tie.Need-returns
 returns c =
     let h = c .before .before .before .args in
@@ -24,4 +21,4 @@ returns-2 c =
     sym (pick-no (decLt (h .p .end) (h .start)) (better (spanOf (h .p)) (spanOf (h .q))) (spanOf (h .q)) (λ k. omega arith))
 
 pub better-before-spec : {M : Type 1} → statement M
-better-before-spec = tie.close (tie.spec better-of-requires returns returns-2)
+better-before-spec = tie.close (tie.spec (λ c κs. search needs) returns returns-2)

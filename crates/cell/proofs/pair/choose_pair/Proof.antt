@@ -20,21 +20,6 @@ abbrev μ-loop : tie.MeasureT-loop
 loop-holds : tie.Need-loop-holds Inv-loop μ-loop
 loop-holds c = (search needs, sym (choose-none (c .before .args .cell .now) (c .before .args .pairs) (c .before .args .start)))
 
-sub-i : tie.Need-sub-i Inv-loop μ-loop
-sub-i c = search needs
-
-mul-pair-at : tie.Need-mul-pair-at Inv-loop μ-loop
-mul-pair-at c = search needs
-
-pair-at-requires : tie.Need-pair-at-requires Inv-loop μ-loop
-pair-at-requires c κs = search needs
-
-better-before-requires : tie.Need-better-before-requires Inv-loop μ-loop
-better-before-requires c κs = search needs
-
-loop-less : tie.Need-loop-less Inv-loop μ-loop
-loop-less c = search needs
-
 loop-again : tie.Need-loop-again Inv-loop μ-loop
 loop-again c =
     let k = c .before .before .before in
@@ -58,10 +43,10 @@ choose-pair-spec =
     Inv-loop
     μ-loop
     loop-holds
-    sub-i
-    mul-pair-at
-    pair-at-requires
-    better-before-requires
-    loop-less
+    (λ c. search needs)
+    (λ c. search needs)
+    (λ c κs. search needs)
+    (λ c κs. search needs)
+    (λ c. search needs)
     loop-again
     returns)

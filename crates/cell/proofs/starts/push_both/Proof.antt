@@ -15,20 +15,11 @@ room c = leb-true _ _ (sym (c .before .has-room .ensures) ∙ c .if2 .taken)
 returns : tie.Need-returns
 returns c = push-left _ _ _ _ (both-starts-not _ _ _ (c .if1 .taken))
 
-has-room-requires : tie.Need-has-room-requires
-has-room-requires c κs = search needs
-
-shared-slice-read-starts : tie.Need-shared-slice-read-starts
-shared-slice-read-starts c = search needs
-
 mul-starts : tie.Need-mul-starts
 mul-starts c = omega (arith, room (c .before))
 
 slice-write-starts : tie.Need-slice-write-starts
 slice-write-starts c = omega (arith, room (c .before))
-
-shared-slice-read-starts-2 : tie.Need-shared-slice-read-starts-2
-shared-slice-read-starts-2 c = search needs
 
 add-starts : tie.Need-add-starts
 add-starts c = omega (arith, room (c .before .before))
@@ -41,9 +32,6 @@ slice-write-starts-2 c = simp length-set (omega (arith, room (c .before .before)
 
 add-result : tie.Need-add-result
 add-result c = omega (arith, room (c .before .before))
-
-same-length : tie.Need-same-length
-same-length c = search needs
 
 returns-2 : tie.Need-returns-2
 returns-2 c =
@@ -59,15 +47,15 @@ push-both-spec =
     tie.close
     (tie.spec
     returns
-    has-room-requires
-    shared-slice-read-starts
+    (λ c κs. search needs)
+    (λ c. search needs)
     mul-starts
     slice-write-starts
-    shared-slice-read-starts-2
+    (λ c. search needs)
     add-starts
     mul-starts-2
     slice-write-starts-2
     add-result
-    same-length
+    (λ c. search needs)
     returns-2
     returns-3)

@@ -14,20 +14,11 @@ use Rattle.cell.proofs.starts.push_chain.Tie as tie
 size : (c : tie.Then1) → sizeFits Chain (length (c .before .before .before .before .args .cell .now)) ≡ true
 size c = sym (c .before .whole-pairs .ensures) ∙ c .if1 .taken
 
-whole-pairs-requires : tie.Need-whole-pairs-requires
-whole-pairs-requires c κs = search needs
-
-has-room-requires : tie.Need-has-room-requires
-has-room-requires c κs = search needs
-
 put-chain-requires : tie.Need-put-chain-requires
 put-chain-requires c κs =
     let d = c .before in
     let k = d .before in
     (chain-paired _ (size (k .before)), leb-true _ _ (sym (k .has-room .ensures) ∙ d .if2 .taken))
-
-same-length : tie.Need-same-length
-same-length c = search needs
 
 returns : tie.Need-returns
 returns c =
@@ -46,10 +37,10 @@ pub push-chain-spec : {M : Type 1} → statement M
 push-chain-spec =
     tie.close
     (tie.spec
-    whole-pairs-requires
-    has-room-requires
+    (λ c κs. search needs)
+    (λ c κs. search needs)
     put-chain-requires
-    same-length
+    (λ c. search needs)
     returns
     returns-2
     returns-3)

@@ -4,24 +4,6 @@ use borrow.Author.Needs.{needs}
 use Rattle.cell.proofs.stepping.both_step.Statement.{statement}
 use Rattle.cell.proofs.stepping.both_step.Tie as tie
 
-renew-requires : tie.Need-renew-requires
-renew-requires c κs = search needs
-
-renew-requires-2 : tie.Need-renew-requires-2
-renew-requires-2 c κs = search needs
-
-lesser-requires : tie.Need-lesser-requires
-lesser-requires c κs = search needs
-
-lesser-requires-2 : tie.Need-lesser-requires-2
-lesser-requires-2 c κs = search needs
-
-larger-requires : tie.Need-larger-requires
-larger-requires c κs = search needs
-
-same-length : tie.Need-same-length
-same-length c = search needs
-
 returns : tie.Need-returns
 returns c =
     λ ys.
@@ -33,10 +15,10 @@ pub both-step-spec : {M : Type 1} → statement M
 both-step-spec =
     tie.close
     (tie.spec
-    renew-requires
-    renew-requires-2
-    lesser-requires
-    lesser-requires-2
-    larger-requires
-    same-length
+    (λ c κs. search needs)
+    (λ c κs. search needs)
+    (λ c κs. search needs)
+    (λ c κs. search needs)
+    (λ c κs. search needs)
+    (λ c. search needs)
     returns)

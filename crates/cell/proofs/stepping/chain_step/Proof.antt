@@ -15,9 +15,6 @@ renew-requires : tie.Need-renew-requires
 unfolding cellWords
 renew-requires c κs = search needs
 
-same-length : tie.Need-same-length
-same-length c = search needs
-
 returns : tie.Need-returns
 unfolding cellWords
 returns c =
@@ -28,4 +25,4 @@ returns c =
     (e .choose-and-keep .ensures .1) (d .renew .ensures) (e .choose-and-keep .ensures .0)
 
 pub chain-step-spec : {M : Type 1} → statement M
-chain-step-spec = tie.close (tie.spec choose-and-keep-requires renew-requires same-length returns)
+chain-step-spec = tie.close (tie.spec choose-and-keep-requires renew-requires (λ c. search needs) returns)

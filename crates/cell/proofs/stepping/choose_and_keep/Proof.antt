@@ -10,33 +10,12 @@ use Rattle.cell.proofs.KeptLaws.{kept-nothing, latest-chosen}
 use Rattle.cell.proofs.stepping.choose_and_keep.Statement.{statement}
 use Rattle.cell.proofs.stepping.choose_and_keep.Tie as tie
 
-slice-read-start-before : tie.Need-slice-read-start-before
-slice-read-start-before c = search needs
-
-slice-read-start-before-2 : tie.Need-slice-read-start-before-2
-slice-read-start-before-2 c = search needs
-
-start-before-requires : tie.Need-start-before-requires
-start-before-requires c κs = search needs
-
 returns : tie.Need-returns
 returns c =
     let h = c .before .before .before .before .before .before in (
       c .start-before .ensures ∙ latest-chosen (h .args .cell .now) (h .args .y) (omega arith),
       kept-nothing (h .args .cell .now) (h .args .starts .now) (h .pre .1) (c .before .before .before .if1 .taken),
     )
-
-pairs-in-requires : tie.Need-pairs-in-requires
-pairs-in-requires c κs = search needs
-
-choose-pair-requires : tie.Need-choose-pair-requires
-choose-pair-requires c κs = search needs
-
-gather-kept-requires : tie.Need-gather-kept-requires
-gather-kept-requires c κs = search needs
-
-same-length : tie.Need-same-length
-same-length c = search needs
 
 returns-2 : tie.Need-returns-2
 returns-2 c =
@@ -52,12 +31,12 @@ pub choose-and-keep-spec : {M : Type 1} → statement M
 choose-and-keep-spec =
     tie.close
     (tie.spec
-    slice-read-start-before
-    slice-read-start-before-2
-    start-before-requires
+    (λ c. search needs)
+    (λ c. search needs)
+    (λ c κs. search needs)
     returns
-    pairs-in-requires
-    choose-pair-requires
-    gather-kept-requires
-    same-length
+    (λ c κs. search needs)
+    (λ c κs. search needs)
+    (λ c κs. search needs)
+    (λ c. search needs)
     returns-2)

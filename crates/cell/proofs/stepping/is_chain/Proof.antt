@@ -8,14 +8,8 @@ use Rattle.cell.proofs.stepping.is_chain.Tie as tie
 returns : tie.Need-returns
 returns c = sym (is-chain-not _ _ (c .if1 .taken))
 
-add-result : tie.Need-add-result
-add-result c = search needs
-
-mul-result : tie.Need-mul-result
-mul-result c = search needs
-
 returns-2 : tie.Need-returns-2
 returns-2 c = sym (is-chain _ _ (c .if1 .left))
 
 pub is-chain-spec : {M : Type 1} → statement M
-is-chain-spec = tie.close (tie.spec returns add-result mul-result returns-2)
+is-chain-spec = tie.close (tie.spec returns (λ c. search needs) (λ c. search needs) returns-2)

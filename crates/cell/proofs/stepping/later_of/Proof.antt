@@ -5,9 +5,6 @@ use borrow.Author.Needs.{needs}
 use Rattle.cell.proofs.stepping.later_of.Statement.{statement}
 use Rattle.cell.proofs.stepping.later_of.Tie as tie
 
-add-t5 : tie.Need-add-t5
-add-t5 c = search needs
-
 returns : tie.Need-returns
 returns c = let a = c .before .before .args in later-answer (spanOf (a .p)) (a .answer) (a .t) (c .if1 .taken)
 
@@ -15,4 +12,4 @@ returns-2 : tie.Need-returns-2
 returns-2 c = let a = c .before .before .args in later-left (spanOf (a .p)) (a .answer) (a .t) (c .if1 .left)
 
 pub later-of-spec : {M : Type 1} → statement M
-later-of-spec = tie.close (tie.spec add-t5 returns returns-2)
+later-of-spec = tie.close (tie.spec (λ c. search needs) returns returns-2)

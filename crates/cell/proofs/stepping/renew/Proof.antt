@@ -5,18 +5,6 @@ use borrow.Author.Needs.{needs}
 use Rattle.cell.proofs.stepping.renew.Statement.{statement}
 use Rattle.cell.proofs.stepping.renew.Tie as tie
 
-pair-at-requires : tie.Need-pair-at-requires
-pair-at-requires c κs = search needs
-
-later-of-requires : tie.Need-later-of-requires
-later-of-requires c κs = search needs
-
-put-pair-requires : tie.Need-put-pair-requires
-put-pair-requires c κs = search needs
-
-same-length : tie.Need-same-length
-same-length c = search needs
-
 returns : tie.Need-returns
 returns c =
     let put = c .before .before in
@@ -27,4 +15,4 @@ returns c =
 
 pub renew-spec : {M : Type 1} → statement M
 renew-spec =
-    tie.close (tie.spec pair-at-requires later-of-requires put-pair-requires same-length returns)
+    tie.close (tie.spec (λ c κs. search needs) (λ c κs. search needs) (λ c κs. search needs) (λ c. search needs) returns)

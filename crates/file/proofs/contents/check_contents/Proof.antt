@@ -17,32 +17,8 @@ Inv-loop count rest i₀ from₀ to₀ at₀ offset₀ i from to at offset = Kep
 abbrev μ-loop : tie.MeasureT-loop
 μ-loop count rest i₀ from₀ to₀ at₀ offset₀ i from to at offset = count - i
 
-mul-offset : tie.Need-mul-offset Inv-loop μ-loop
-mul-offset c = search needs
-
-add-offset : tie.Need-add-offset Inv-loop μ-loop
-add-offset c = search needs
-
 loop-holds : tie.Need-loop-holds Inv-loop μ-loop
 loop-holds c = contents-none _ _ (c .before .pre .few)
-
-sub-content-kept : tie.Need-sub-content-kept Inv-loop μ-loop
-sub-content-kept c = search needs
-
-part-content-kept-start : tie.Need-part-content-kept-start Inv-loop μ-loop
-part-content-kept-start c = search needs
-
-part-content-kept-end : tie.Need-part-content-kept-end Inv-loop μ-loop
-part-content-kept-end c = search needs
-
-sub-content-kept-2 : tie.Need-sub-content-kept-2 Inv-loop μ-loop
-sub-content-kept-2 c = search needs
-
-part-content-kept-start-2 : tie.Need-part-content-kept-start-2 Inv-loop μ-loop
-part-content-kept-start-2 c = search needs
-
-part-content-kept-end-2 : tie.Need-part-content-kept-end-2 Inv-loop μ-loop
-part-content-kept-end-2 c = search needs
 
 content-kept-requires : tie.Need-content-kept-requires Inv-loop μ-loop
 content-kept-requires c κs =
@@ -54,33 +30,6 @@ returns : tie.Need-returns Inv-loop μ-loop
 returns c =
     contents-here (c .before .before .before .before .before .loop .inv) (omega arith)
     (sym (c .before .content-kept .ensures) ∙ not-true _ (c .if1 .taken))
-
-add-wide : tie.Need-add-wide Inv-loop μ-loop
-add-wide c = search needs
-
-shared-slice-read-wide : tie.Need-shared-slice-read-wide Inv-loop μ-loop
-shared-slice-read-wide c = search needs
-
-wide-requires : tie.Need-wide-requires Inv-loop μ-loop
-wide-requires c κs = search needs
-
-mul-offset-2 : tie.Need-mul-offset-2 Inv-loop μ-loop
-mul-offset-2 c = search needs
-
-add-offset-2 : tie.Need-add-offset-2 Inv-loop μ-loop
-add-offset-2 c = search needs
-
-add-to : tie.Need-add-to Inv-loop μ-loop
-add-to c = search needs
-
-add-at : tie.Need-add-at Inv-loop μ-loop
-add-at c = search needs
-
-add-i : tie.Need-add-i Inv-loop μ-loop
-add-i c = search needs
-
-loop-less : tie.Need-loop-less Inv-loop μ-loop
-loop-less c = search needs
 
 loop-again : tie.Need-loop-again Inv-loop μ-loop
 loop-again c =
@@ -97,25 +46,25 @@ check-contents-spec =
     (tie.spec
     Inv-loop
     μ-loop
-    mul-offset
-    add-offset
+    (λ c. search needs)
+    (λ c. search needs)
     loop-holds
-    sub-content-kept
-    part-content-kept-start
-    part-content-kept-end
-    sub-content-kept-2
-    part-content-kept-start-2
-    part-content-kept-end-2
+    (λ c. search needs)
+    (λ c. search needs)
+    (λ c. search needs)
+    (λ c. search needs)
+    (λ c. search needs)
+    (λ c. search needs)
     content-kept-requires
     returns
-    add-wide
-    shared-slice-read-wide
-    wide-requires
-    mul-offset-2
-    add-offset-2
-    add-to
-    add-at
-    add-i
-    loop-less
+    (λ c. search needs)
+    (λ c. search needs)
+    (λ c κs. search needs)
+    (λ c. search needs)
+    (λ c. search needs)
+    (λ c. search needs)
+    (λ c. search needs)
+    (λ c. search needs)
+    (λ c. search needs)
     loop-again
     returns-2)

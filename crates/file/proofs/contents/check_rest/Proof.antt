@@ -14,44 +14,11 @@ returns c = rest-none _ _ (c .if1 .taken)
 returns-2 : tie.Need-returns-2
 returns-2 c = rest-many _ _ (c .before .if1 .left) (c .if2 .taken)
 
-mul-long : tie.Need-mul-long
-mul-long c = search needs
-
 returns-3 : tie.Need-returns-3
 returns-3 c = rest-short _ _ (c .before .before .if1 .left) (c .before .if2 .left) (c .if3 .taken)
 
-check-contents-requires : tie.Need-check-contents-requires
-check-contents-requires c κs = search needs
-
-enum-known-r : tie.Need-enum-known-r
-enum-known-r c = search needs
-
 enum-told : tie.Need-enum-told
 enum-told c = search needs
-
-slice-aggregate-copy-counts : tie.Need-slice-aggregate-copy-counts
-slice-aggregate-copy-counts c = search needs
-
-copy-counts-requires : tie.Need-copy-counts-requires
-copy-counts-requires c κs = search needs
-
-sub-check-bodies : tie.Need-sub-check-bodies
-sub-check-bodies c = search needs
-
-part-check-bodies-start : tie.Need-part-check-bodies-start
-part-check-bodies-start c = search needs
-
-part-check-bodies-end : tie.Need-part-check-bodies-end
-part-check-bodies-end c = search needs
-
-sub-check-bodies-2 : tie.Need-sub-check-bodies-2
-sub-check-bodies-2 c = search needs
-
-part-check-bodies-start-2 : tie.Need-part-check-bodies-start-2
-part-check-bodies-start-2 c = search needs
-
-part-check-bodies-end-2 : tie.Need-part-check-bodies-end-2
-part-check-bodies-end-2 c = search needs
 
 check-bodies-requires : tie.Need-check-bodies-requires
 check-bodies-requires c κs =
@@ -81,19 +48,19 @@ check-rest-spec =
     (tie.spec
     returns
     returns-2
-    mul-long
+    (λ c. search needs)
     returns-3
-    check-contents-requires
-    enum-known-r
+    (λ c κs. search needs)
+    (λ c. search needs)
     enum-told
-    slice-aggregate-copy-counts
-    copy-counts-requires
-    sub-check-bodies
-    part-check-bodies-start
-    part-check-bodies-end
-    sub-check-bodies-2
-    part-check-bodies-start-2
-    part-check-bodies-end-2
+    (λ c. search needs)
+    (λ c κs. search needs)
+    (λ c. search needs)
+    (λ c. search needs)
+    (λ c. search needs)
+    (λ c. search needs)
+    (λ c. search needs)
+    (λ c. search needs)
     check-bodies-requires
     returns-4
     returns-5)

@@ -20,37 +20,10 @@ shared-slice-read-wide c =
     let s = c .before .before .before in
     omega (arith, sound-long (s .args .file .now) (s .pre))
 
-wide-requires : tie.Need-wide-requires Inv-loop μ-loop
-wide-requires c κs = search needs
-
 loop-holds : tie.Need-loop-holds Inv-loop μ-loop
 loop-holds c =
     let s = c .before .before .before .before in
     sought-none _ _ _ (c .wide .ensures .0) (s .pre)
-
-add-is-same : tie.Need-add-is-same Inv-loop μ-loop
-add-is-same c = search needs
-
-sub-is-same : tie.Need-sub-is-same Inv-loop μ-loop
-sub-is-same c = search needs
-
-part-is-same-start : tie.Need-part-is-same-start Inv-loop μ-loop
-part-is-same-start c = search needs
-
-part-is-same-end : tie.Need-part-is-same-end Inv-loop μ-loop
-part-is-same-end c = search needs
-
-is-same-requires : tie.Need-is-same-requires Inv-loop μ-loop
-is-same-requires c κs = search needs
-
-sub-place-in : tie.Need-sub-place-in Inv-loop μ-loop
-sub-place-in c = search needs
-
-part-place-in-start : tie.Need-part-place-in-start Inv-loop μ-loop
-part-place-in-start c = search needs
-
-part-place-in-end : tie.Need-part-place-in-end Inv-loop μ-loop
-part-place-in-end c = search needs
 
 place-in-requires : tie.Need-place-in-requires Inv-loop μ-loop
 place-in-requires c κs =
@@ -63,15 +36,6 @@ returns c =
     let t = c .before .before in
     let k = t .before .before .before .before in
     sought-here (k .loop .inv) (omega (arith, k .loop .inv)) (sym (t .before .is-same .ensures) ∙ t .if1 .taken) (c .place-in .ensures)
-
-add-at : tie.Need-add-at Inv-loop μ-loop
-add-at c = search needs
-
-add-i : tie.Need-add-i Inv-loop μ-loop
-add-i c = search needs
-
-loop-less : tie.Need-loop-less Inv-loop μ-loop
-loop-less c = search needs
 
 loop-again : tie.Need-loop-again Inv-loop μ-loop
 loop-again c =
@@ -87,20 +51,20 @@ find-spec =
     Inv-loop
     μ-loop
     shared-slice-read-wide
-    wide-requires
+    (λ c κs. search needs)
     loop-holds
-    add-is-same
-    sub-is-same
-    part-is-same-start
-    part-is-same-end
-    is-same-requires
-    sub-place-in
-    part-place-in-start
-    part-place-in-end
+    (λ c. search needs)
+    (λ c. search needs)
+    (λ c. search needs)
+    (λ c. search needs)
+    (λ c κs. search needs)
+    (λ c. search needs)
+    (λ c. search needs)
+    (λ c. search needs)
     place-in-requires
     returns
-    add-at
-    add-i
-    loop-less
+    (λ c. search needs)
+    (λ c. search needs)
+    (λ c. search needs)
     loop-again
     returns-2)

@@ -18,12 +18,6 @@ abbrev μ-loop : tie.MeasureT-loop
 returns : tie.Need-returns Inv-loop μ-loop
 returns c = named-none _ (c .if1 .taken)
 
-shared-slice-read-is-name-byte : tie.Need-shared-slice-read-is-name-byte Inv-loop μ-loop
-shared-slice-read-is-name-byte c = search needs
-
-is-name-byte-requires : tie.Need-is-name-byte-requires Inv-loop μ-loop
-is-name-byte-requires c κs = search needs
-
 returns-2 : tie.Need-returns-2 Inv-loop μ-loop
 returns-2 c =
     let s = c .before .before .before .before .before in
@@ -34,27 +28,12 @@ loop-holds c =
     let s = c .before .before .before .before .before in
     named-one (s .args .name .now) (omega arith) (sym (c .before .is-name-byte .ensures) ∙ not-false _ (c .if2 .left))
 
-shared-slice-read-is-name-byte-2 : tie.Need-shared-slice-read-is-name-byte-2 Inv-loop μ-loop
-shared-slice-read-is-name-byte-2 c = search needs
-
-is-name-byte-requires-2 : tie.Need-is-name-byte-requires-2 Inv-loop μ-loop
-is-name-byte-requires-2 c κs = search needs
-
-are-spaces-requires : tie.Need-are-spaces-requires Inv-loop μ-loop
-are-spaces-requires c κs = search needs
-
 returns-3 : tie.Need-returns-3 Inv-loop μ-loop
 returns-3 c =
     let t = c .before in
     c .are-spaces .ensures
     ∙ named-spaces (t .before .before .before .before .loop .inv) (omega arith)
     (sym (t .before .is-name-byte2 .ensures) ∙ not-true _ (t .if3 .taken))
-
-add-i : tie.Need-add-i Inv-loop μ-loop
-add-i c = search needs
-
-loop-less : tie.Need-loop-less Inv-loop μ-loop
-loop-less c = search needs
 
 loop-again : tie.Need-loop-again Inv-loop μ-loop
 loop-again c =
@@ -70,15 +49,15 @@ is-name-spec =
     Inv-loop
     μ-loop
     returns
-    shared-slice-read-is-name-byte
-    is-name-byte-requires
+    (λ c. search needs)
+    (λ c κs. search needs)
     returns-2
     loop-holds
-    shared-slice-read-is-name-byte-2
-    is-name-byte-requires-2
-    are-spaces-requires
+    (λ c. search needs)
+    (λ c κs. search needs)
+    (λ c κs. search needs)
     returns-3
-    add-i
-    loop-less
+    (λ c. search needs)
+    (λ c. search needs)
     loop-again
     returns-4)

@@ -38,38 +38,14 @@ at-body w = record {
 bodies-holds : tie.Need-bodies-holds Inv-loop μ-loop Inv-bodies μ-bodies
 bodies-holds c = searched-none _ _ (c .before .before .pre)
 
-shared-slice-read-wide : tie.Need-shared-slice-read-wide Inv-loop μ-loop Inv-bodies μ-bodies
-shared-slice-read-wide c = search needs
-
-wide-requires : tie.Need-wide-requires Inv-loop μ-loop Inv-bodies μ-bodies
-wide-requires c κs = search needs
-
-mul-end : tie.Need-mul-end Inv-loop μ-loop Inv-bodies μ-bodies
-mul-end c = search needs
-
 add-end : tie.Need-add-end Inv-loop μ-loop Inv-bodies μ-bodies
 add-end c = omega (arith, body-ends (at-body c))
 
 loop-holds : tie.Need-loop-holds Inv-loop μ-loop Inv-bodies μ-bodies
 loop-holds c = scanned-none _ _ (body-long (at-body c))
 
-sub-entry-at : tie.Need-sub-entry-at Inv-loop μ-loop Inv-bodies μ-bodies
-sub-entry-at c = search needs
-
-part-entry-at-start : tie.Need-part-entry-at-start Inv-loop μ-loop Inv-bodies μ-bodies
-part-entry-at-start c = search needs
-
 part-entry-at-end : tie.Need-part-entry-at-end Inv-loop μ-loop Inv-bodies μ-bodies
 part-entry-at-end c = body-ends (at-body (c .before .before))
-
-entry-at-requires : tie.Need-entry-at-requires Inv-loop μ-loop Inv-bodies μ-bodies
-entry-at-requires c κs = search needs
-
-depth-after-requires : tie.Need-depth-after-requires Inv-loop μ-loop Inv-bodies μ-bodies
-depth-after-requires c κs = search needs
-
-enum-known-left : tie.Need-enum-known-left Inv-loop μ-loop Inv-bodies μ-bodies
-enum-known-left c = search needs
 
 cast-trees : tie.Need-cast-trees Inv-loop μ-loop Inv-bodies μ-bodies
 cast-trees c =
@@ -77,23 +53,8 @@ cast-trees c =
     let s = scanned-more (k .loop .inv) (omega arith) (c .before .left .given .0 .0) (cc) in
     omega (arith, s .upto, s .few, k .before .wide .ensures)
 
-enum-told : tie.Need-enum-told Inv-loop μ-loop Inv-bodies μ-bodies
-enum-told c = search needs
-
-add-e : tie.Need-add-e Inv-loop μ-loop Inv-bodies μ-bodies
-add-e c = search needs
-
-loop-less : tie.Need-loop-less Inv-loop μ-loop Inv-bodies μ-bodies
-loop-less c = search needs
-
 loop-again : tie.Need-loop-again Inv-loop μ-loop Inv-bodies μ-bodies
 loop-again c = scanned-more (c .before .before .before .before .before .before .before .loop .inv) (omega arith) (c .before .left .given .0 .0) (cc)
-
-add-b : tie.Need-add-b Inv-loop μ-loop Inv-bodies μ-bodies
-add-b c = search needs
-
-bodies-less : tie.Need-bodies-less Inv-loop μ-loop Inv-bodies μ-bodies
-bodies-less c = search needs
 
 bodies-again : tie.Need-bodies-again Inv-loop μ-loop Inv-bodies μ-bodies
 bodies-again c =
@@ -122,24 +83,24 @@ broken-body-spec =
     Inv-bodies
     μ-bodies
     bodies-holds
-    shared-slice-read-wide
-    wide-requires
-    mul-end
+    (λ c. search needs)
+    (λ c κs. search needs)
+    (λ c. search needs)
     add-end
     loop-holds
-    sub-entry-at
-    part-entry-at-start
+    (λ c. search needs)
+    (λ c. search needs)
     part-entry-at-end
-    entry-at-requires
-    depth-after-requires
-    enum-known-left
+    (λ c κs. search needs)
+    (λ c κs. search needs)
+    (λ c. search needs)
     cast-trees
-    enum-told
-    add-e
-    loop-less
+    (λ c. search needs)
+    (λ c. search needs)
+    (λ c. search needs)
     loop-again
-    add-b
-    bodies-less
+    (λ c. search needs)
+    (λ c. search needs)
     bodies-again
     returns
     returns-2

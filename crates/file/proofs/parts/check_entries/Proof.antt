@@ -19,46 +19,10 @@ abbrev μ-loop : tie.MeasureT-loop
 loop-holds : tie.Need-loop-holds Inv-loop μ-loop
 loop-holds c = kept-none _ _
 
-sub-entry-kept : tie.Need-sub-entry-kept Inv-loop μ-loop
-sub-entry-kept c = search needs
-
-part-entry-kept-start : tie.Need-part-entry-kept-start Inv-loop μ-loop
-part-entry-kept-start c = search needs
-
-part-entry-kept-end : tie.Need-part-entry-kept-end Inv-loop μ-loop
-part-entry-kept-end c = search needs
-
-add-entry-kept : tie.Need-add-entry-kept Inv-loop μ-loop
-add-entry-kept c = search needs
-
-sub-entry-kept-2 : tie.Need-sub-entry-kept-2 Inv-loop μ-loop
-sub-entry-kept-2 c = search needs
-
-part-entry-kept-start-2 : tie.Need-part-entry-kept-start-2 Inv-loop μ-loop
-part-entry-kept-start-2 c = search needs
-
-part-entry-kept-end-2 : tie.Need-part-entry-kept-end-2 Inv-loop μ-loop
-part-entry-kept-end-2 c = search needs
-
-shared-slice-read-entry-kept : tie.Need-shared-slice-read-entry-kept Inv-loop μ-loop
-shared-slice-read-entry-kept c = search needs
-
-entry-kept-requires : tie.Need-entry-kept-requires Inv-loop μ-loop
-entry-kept-requires c κs = search needs
-
 returns : tie.Need-returns Inv-loop μ-loop
 returns c =
     kept-here (c .before .before .before .before .before .before .loop .inv) (omega arith)
     (sym (c .before .entry-kept .ensures) ∙ not-true _ (c .if1 .taken))
-
-add-at : tie.Need-add-at Inv-loop μ-loop
-add-at c = search needs
-
-add-i : tie.Need-add-i Inv-loop μ-loop
-add-i c = search needs
-
-loop-less : tie.Need-loop-less Inv-loop μ-loop
-loop-less c = search needs
 
 loop-again : tie.Need-loop-again Inv-loop μ-loop
 loop-again c =
@@ -75,18 +39,18 @@ check-entries-spec =
     Inv-loop
     μ-loop
     loop-holds
-    sub-entry-kept
-    part-entry-kept-start
-    part-entry-kept-end
-    add-entry-kept
-    sub-entry-kept-2
-    part-entry-kept-start-2
-    part-entry-kept-end-2
-    shared-slice-read-entry-kept
-    entry-kept-requires
+    (λ c. search needs)
+    (λ c. search needs)
+    (λ c. search needs)
+    (λ c. search needs)
+    (λ c. search needs)
+    (λ c. search needs)
+    (λ c. search needs)
+    (λ c. search needs)
+    (λ c κs. search needs)
     returns
-    add-at
-    add-i
-    loop-less
+    (λ c. search needs)
+    (λ c. search needs)
+    (λ c. search needs)
     loop-again
     returns-2)

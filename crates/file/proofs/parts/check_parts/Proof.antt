@@ -11,23 +11,11 @@ returns c = parts-none _ _ _ (c .if1 .taken)
 returns-2 : tie.Need-returns-2
 returns-2 c = parts-many _ _ _ (c .before .if1 .left) (c .if2 .taken)
 
-mul-if3 : tie.Need-mul-if3
-mul-if3 c = search needs
-
 returns-3 : tie.Need-returns-3
 returns-3 c = parts-other _ _ _ (c .before .before .if1 .left) (c .before .if2 .left) (c .if3 .taken)
 
-check-entries-requires : tie.Need-check-entries-requires
-check-entries-requires c κs = search needs
-
-enum-known-r : tie.Need-enum-known-r
-enum-known-r c = search needs
-
 enum-told : tie.Need-enum-told
 enum-told c = search needs
-
-check-bodies-requires : tie.Need-check-bodies-requires
-check-bodies-requires c κs = search needs
 
 returns-4 : tie.Need-returns-4
 returns-4 c =
@@ -50,11 +38,11 @@ check-parts-spec =
     (tie.spec
     returns
     returns-2
-    mul-if3
+    (λ c. search needs)
     returns-3
-    check-entries-requires
-    enum-known-r
+    (λ c κs. search needs)
+    (λ c. search needs)
     enum-told
-    check-bodies-requires
+    (λ c κs. search needs)
     returns-4
     returns-5)

@@ -18,15 +18,9 @@ name-rises : (b : tie.Else2)
     ≡ true
 name-rises b = sym (b .before .is-below .ensures) ∙ not-false _ (b .if2 .left)
 
-is-name-requires : tie.Need-is-name-requires
-is-name-requires c κs = search needs
-
 returns : tie.Need-returns
 unfolding entryKept
 returns c = rw (sym (c .before .is-name .ensures) ∙ not-true _ (c .if1 .taken))
-
-is-below-requires : tie.Need-is-below-requires
-is-below-requires c κs = search needs
 
 returns-2 : tie.Need-returns-2
 unfolding entryKept
@@ -42,4 +36,4 @@ returns-4 c = rw (name-well (c .before .before .before), name-rises (c .before),
 
 pub entry-kept-spec : {M : Type 1} → statement M
 entry-kept-spec =
-    tie.close (tie.spec is-name-requires returns is-below-requires returns-2 returns-3 returns-4)
+    tie.close (tie.spec (λ c κs. search needs) returns (λ c κs. search needs) returns-2 returns-3 returns-4)

@@ -16,43 +16,10 @@ Inv-loop names counts part₀ i₀ from₀ at₀ offset₀ part i from at offset
 abbrev μ-loop : tie.MeasureT-loop
 μ-loop names counts part₀ i₀ from₀ at₀ offset₀ part i from at offset = length counts - i
 
-mul-offset : tie.Need-mul-offset Inv-loop μ-loop
-mul-offset c = search needs
-
-add-offset : tie.Need-add-offset Inv-loop μ-loop
-add-offset c = search needs
-
 loop-holds : tie.Need-loop-holds Inv-loop μ-loop
 loop-holds c =
     let s = c .before .before .before in
     filled-none _ _ _ (s .pre .few) (s .pre .long)
-
-add-write-entry : tie.Need-add-write-entry Inv-loop μ-loop
-add-write-entry c = search needs
-
-sub-write-entry : tie.Need-sub-write-entry Inv-loop μ-loop
-sub-write-entry c = search needs
-
-part-write-entry-start : tie.Need-part-write-entry-start Inv-loop μ-loop
-part-write-entry-start c = search needs
-
-part-write-entry-end : tie.Need-part-write-entry-end Inv-loop μ-loop
-part-write-entry-end c = search needs
-
-shared-slice-read-write-entry : tie.Need-shared-slice-read-write-entry Inv-loop μ-loop
-shared-slice-read-write-entry c = search needs
-
-add-write-entry-2 : tie.Need-add-write-entry-2 Inv-loop μ-loop
-add-write-entry-2 c = search needs
-
-sub-write-entry-2 : tie.Need-sub-write-entry-2 Inv-loop μ-loop
-sub-write-entry-2 c = search needs
-
-part-write-entry-start-2 : tie.Need-part-write-entry-start-2 Inv-loop μ-loop
-part-write-entry-start-2 c = search needs
-
-part-write-entry-end-2 : tie.Need-part-write-entry-end-2 Inv-loop μ-loop
-part-write-entry-end-2 c = search needs
 
 write-entry-requires : tie.Need-write-entry-requires Inv-loop μ-loop
 write-entry-requires c κs =
@@ -62,30 +29,6 @@ write-entry-requires c κs =
       named = name-long (k .loop .inv) (omega arith) (s .pre .named);
       long = mid-len (k .loop .at) (k .loop .at + 12) (k .loop .part) (omega arith) ∙ omega arith;
     }
-
-shared-slice-read-wide : tie.Need-shared-slice-read-wide Inv-loop μ-loop
-shared-slice-read-wide c = search needs
-
-wide-requires : tie.Need-wide-requires Inv-loop μ-loop
-wide-requires c κs = search needs
-
-mul-offset-2 : tie.Need-mul-offset-2 Inv-loop μ-loop
-mul-offset-2 c = search needs
-
-add-offset-2 : tie.Need-add-offset-2 Inv-loop μ-loop
-add-offset-2 c = search needs
-
-add-from : tie.Need-add-from Inv-loop μ-loop
-add-from c = search needs
-
-add-at : tie.Need-add-at Inv-loop μ-loop
-add-at c = search needs
-
-add-i : tie.Need-add-i Inv-loop μ-loop
-add-i c = search needs
-
-loop-less : tie.Need-loop-less Inv-loop μ-loop
-loop-less c = search needs
 
 loop-again : tie.Need-loop-again Inv-loop μ-loop
 loop-again c =
@@ -108,27 +51,27 @@ write-contents-spec =
     (tie.spec
     Inv-loop
     μ-loop
-    mul-offset
-    add-offset
+    (λ c. search needs)
+    (λ c. search needs)
     loop-holds
-    add-write-entry
-    sub-write-entry
-    part-write-entry-start
-    part-write-entry-end
-    shared-slice-read-write-entry
-    add-write-entry-2
-    sub-write-entry-2
-    part-write-entry-start-2
-    part-write-entry-end-2
+    (λ c. search needs)
+    (λ c. search needs)
+    (λ c. search needs)
+    (λ c. search needs)
+    (λ c. search needs)
+    (λ c. search needs)
+    (λ c. search needs)
+    (λ c. search needs)
+    (λ c. search needs)
     write-entry-requires
-    shared-slice-read-wide
-    wide-requires
-    mul-offset-2
-    add-offset-2
-    add-from
-    add-at
-    add-i
-    loop-less
+    (λ c. search needs)
+    (λ c κs. search needs)
+    (λ c. search needs)
+    (λ c. search needs)
+    (λ c. search needs)
+    (λ c. search needs)
+    (λ c. search needs)
+    (λ c. search needs)
     loop-again
     same-length
     returns)

@@ -10,27 +10,6 @@ use borrow.Author.Needs.{needs}
 use Rattle.file.proofs.writer.write_entry.Statement.{statement}
 use Rattle.file.proofs.writer.write_entry.Tie as tie
 
-sub-copy : tie.Need-sub-copy
-sub-copy c = search needs
-
-part-copy-start : tie.Need-part-copy-start
-part-copy-start c = search needs
-
-part-copy-end : tie.Need-part-copy-end
-part-copy-end c = search needs
-
-copy-requires : tie.Need-copy-requires
-copy-requires c κs = search needs
-
-cast-entry : tie.Need-cast-entry
-cast-entry c = search needs
-
-slice-write-entry : tie.Need-slice-write-entry
-slice-write-entry c = search needs
-
-cast-entry-2 : tie.Need-cast-entry-2
-cast-entry-2 c = search needs
-
 slice-write-entry-2 : tie.Need-slice-write-entry-2
 slice-write-entry-2 c = simp length-set (omega arith)
 
@@ -39,9 +18,6 @@ slice-write-entry-3 c = simp length-set (omega arith)
 
 slice-write-entry-4 : tie.Need-slice-write-entry-4
 slice-write-entry-4 c = simp length-set (omega arith)
-
-same-length : tie.Need-same-length
-same-length c = search needs
 
 returns : tie.Need-returns
 unfolding bytesOf
@@ -57,15 +33,15 @@ pub write-entry-spec : {M : Type 1} → statement M
 write-entry-spec =
     tie.close
     (tie.spec
-    sub-copy
-    part-copy-start
-    part-copy-end
-    copy-requires
-    cast-entry
-    slice-write-entry
-    cast-entry-2
+    (λ c. search needs)
+    (λ c. search needs)
+    (λ c. search needs)
+    (λ c κs. search needs)
+    (λ c. search needs)
+    (λ c. search needs)
+    (λ c. search needs)
     slice-write-entry-2
     slice-write-entry-3
     slice-write-entry-4
-    same-length
+    (λ c. search needs)
     returns)

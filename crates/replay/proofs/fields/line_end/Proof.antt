@@ -12,37 +12,16 @@ Inv-loop input from at₀ at = (from ≤ at) × (at ≤ length input)
 abbrev μ-loop : tie.MeasureT-loop
 μ-loop input from at₀ at = length input - at
 
-loop-holds : tie.Need-loop-holds Inv-loop μ-loop
-loop-holds c = omega arith
-
-shared-slice-read-if1 : tie.Need-shared-slice-read-if1 Inv-loop μ-loop
-shared-slice-read-if1 c = omega arith
-
-returns : tie.Need-returns Inv-loop μ-loop
-returns c = search needs
-
-add-at : tie.Need-add-at Inv-loop μ-loop
-add-at c = omega arith
-
-loop-less : tie.Need-loop-less Inv-loop μ-loop
-loop-less c = omega arith
-
-loop-again : tie.Need-loop-again Inv-loop μ-loop
-loop-again c = omega arith
-
-returns-2 : tie.Need-returns-2 Inv-loop μ-loop
-returns-2 c = search needs
-
 pub line-end-spec : {M : Type 1} → statement M
 line-end-spec =
     tie.close
     (tie.spec
     Inv-loop
     μ-loop
-    loop-holds
-    shared-slice-read-if1
-    returns
-    add-at
-    loop-less
-    loop-again
-    returns-2)
+    (λ c. omega arith)
+    (λ c. omega arith)
+    (λ c. search needs)
+    (λ c. omega arith)
+    (λ c. omega arith)
+    (λ c. omega arith)
+    (λ c. search needs))

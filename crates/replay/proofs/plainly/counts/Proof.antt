@@ -11,69 +11,24 @@ Inv-loop rows from ticks e₀ e = e ≤ ticks
 abbrev μ-loop : tie.MeasureT-loop
 μ-loop rows from ticks e₀ e = ticks - e
 
-loop-holds : tie.Need-loop-holds Inv-loop μ-loop
-loop-holds c = omega arith
-
-returns : tie.Need-returns Inv-loop μ-loop
-returns c = search needs
-
-sub-if2 : tie.Need-sub-if2 Inv-loop μ-loop
-sub-if2 c = omega arith
-
-returns-2 : tie.Need-returns-2 Inv-loop μ-loop
-returns-2 c = search needs
-
-add-instances : tie.Need-add-instances Inv-loop μ-loop
-add-instances c = omega arith
-
-mul-instances : tie.Need-mul-instances Inv-loop μ-loop
-mul-instances c = omega arith
-
-shared-slice-read-instances : tie.Need-shared-slice-read-instances Inv-loop μ-loop
-shared-slice-read-instances c = omega arith
-
-instances-requires : tie.Need-instances-requires Inv-loop μ-loop
-instances-requires c κs = search needs
-
-cast-print : tie.Need-cast-print Inv-loop μ-loop
-cast-print c = omega arith
-
-print-requires : tie.Need-print-requires Inv-loop μ-loop
-print-requires c κs = search needs
-
-add-e : tie.Need-add-e Inv-loop μ-loop
-add-e c = omega arith
-
-loop-less : tie.Need-loop-less Inv-loop μ-loop
-loop-less c = omega arith
-
-loop-again : tie.Need-loop-again Inv-loop μ-loop
-loop-again c = omega arith
-
-end-line-requires : tie.Need-end-line-requires Inv-loop μ-loop
-end-line-requires c κs = search needs
-
-returns-3 : tie.Need-returns-3 Inv-loop μ-loop
-returns-3 c = search needs
-
 pub counts-spec : {M : Type 1} → statement M
 counts-spec =
     tie.close
     (tie.spec
     Inv-loop
     μ-loop
-    loop-holds
-    returns
-    sub-if2
-    returns-2
-    add-instances
-    mul-instances
-    shared-slice-read-instances
-    instances-requires
-    cast-print
-    print-requires
-    add-e
-    loop-less
-    loop-again
-    end-line-requires
-    returns-3)
+    (λ c. omega arith)
+    (λ c. search needs)
+    (λ c. omega arith)
+    (λ c. search needs)
+    (λ c. omega arith)
+    (λ c. omega arith)
+    (λ c. omega arith)
+    (λ c κs. search needs)
+    (λ c. omega arith)
+    (λ c κs. search needs)
+    (λ c. omega arith)
+    (λ c. omega arith)
+    (λ c. omega arith)
+    (λ c κs. search needs)
+    (λ c. search needs))
