@@ -13,7 +13,7 @@ use Rattle.rules.specs.Bits.{bit}
 use Rattle.rules.proofs.Bits.{bit-lt, bit-low, bit-high}
 use Rattle.text.specs.Render.{letterByte}
 use Rattle.text.specs.Characters.{letterOf}
-use Rattle.text.proofs.Branches.{either-way, either-is}
+use Rattle.decimal.proofs.Branches.{either-way, either-is}
 use Rattle.text.proofs.Bytes.{letter-byte, byte-letter}
 use Rattle.line.specs.Lines.{letterIf, lettersFrom, lettersOf}
 use Rattle.line.specs.Scan.{wordFrom, wordOf}

@@ -1,5 +1,4 @@
 -- reading
-pub mod Decimals
 pub mod Numbers
 pub mod Letters
 pub mod Parses

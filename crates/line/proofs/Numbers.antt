@@ -6,14 +6,14 @@ use mathlib.Core.List.{List, [], _∷_, _++_}
 use lib.Seq.{append-snoc}
 use borrow.Author.Tests.{lt-ltb, le-ltb, eq-eqb, ne-eqb}
 use Rattle.rules.proofs.Impossible.{impossible}
-use Rattle.text.specs.Render.{digitsIn}
+use Rattle.decimal.specs.Decimal.{digitsIn}
 use Rattle.text.specs.Characters.{digitOf}
-use Rattle.text.proofs.Branches.{either-way, either-is}
+use Rattle.decimal.proofs.Branches.{either-way, either-is}
 use Rattle.text.proofs.Bytes.{digit-byte, byte-digit}
-use Rattle.line.specs.Lines.{decimal}
+use Rattle.decimal.specs.Decimal.{decimal}
 use Rattle.line.specs.Scan.{frontOf, grow}
 use Rattle.line.specs.Scan.Front.{none, number}
-use Rattle.line.proofs.Decimals.{decimal-one, decimal-next}
+use Rattle.decimal.proofs.Decimals.{decimal-one, decimal-next}
 
 module _ (c : ℕ) (s : List ℕ) where
   pub grow-digit : (v : ℕ) → digitOf c < 10 → grow v (c ∷ s) ≡ grow (v * 10 + digitOf c) s

@@ -5,8 +5,9 @@ use native.Mathlib.Omega.{arith}
 use mathlib.Core.List.{List, [], _∷_, _++_}
 use borrow.Author.Tests.{eq-eqb, ne-eqb}
 use Rattle.rules.proofs.Impossible.{impossible}
-use Rattle.text.proofs.Branches.{either-is}
-use Rattle.line.specs.Lines.{decimal, lettersOf}
+use Rattle.decimal.proofs.Branches.{either-is}
+use Rattle.line.specs.Lines.{lettersOf}
+use Rattle.decimal.specs.Decimal.{decimal}
 use Rattle.line.specs.Answer.{LineOf}
 use Rattle.line.specs.Scan.{Front, frontOf, wordOf, withWord, afterFront, parse}
 use Rattle.line.specs.Scan.Front.{none, number}

@@ -1,4 +1,4 @@
--- The ways that the reader's functions go: one lemma for each answer. Assumes nothing.
+-- The ways that the reader's functions end: one lemma for each answer. Assumes nothing.
 use mathlib.Core.Path.{_≡_, refl, sym, ap, _∙_}
 use Prim.Native.Nat.{ℕ, _+_, _*_, _%_, _^_, _<_, _≤_, min}
 use native.Mathlib.Decide.{decLt}
@@ -15,7 +15,7 @@ use Rattle.line.specs.Answer.{LineOf, IsTick, IsRange}
 use Rattle.line.specs.Scan.{frontOf, grow, wordFrom, wordOf, withWord, afterFront, parse}
 use Rattle.line.specs.Scan.Front.{none, number}
 use Rattle.line.specs.Scan.Parsed.{malformed}
-use Rattle.line.specs.Told.{IsNumber}
+use Rattle.line.specs.Number.{IsNumber}
 use Rattle.line.proofs.Numbers.{grow-digit, grow-other, front-other, front-zero, front-grow}
 use Rattle.line.proofs.Letters.{word-more, word-low, word-other, word-fits, bit-shifted}
 use Rattle.line.proofs.Parses.{word-some, line-parsed}
@@ -23,10 +23,10 @@ use Rattle.line.proofs.Parses.{word-some, line-parsed}
 -- ---- the number
 
 -- the digits before `end` make a number, which is not 0; its value is right up to 2 ^ 32, and over it otherwise
-pub record Going (s : List ℕ) (end value : ℕ) : Type 0 where
+pub record DigitsRead (s : List ℕ) (end value : ℕ) : Type 0 where
   pub tick : ℕ
   pub some : 0 < tick
-  pub told : min value ticks ≡ min tick ticks
+  pub capped : min value ticks ≡ min tick ticks
   pub inside : end ≤ length s
   pub reads : frontOf s ≡ grow tick (drop end s)
 
@@ -43,44 +43,44 @@ module _ (s : List ℕ) where
     value-zero z = record {
       tick = 0;
       front = ap frontOf (drop-at s 0 h) ∙ front-zero (getD s 0 0) (drop 1 s) (omega arith);
-      told = omega arith;
+      capped = omega arith;
       inside = omega arith;
     }
 
-    pub going-first : d < 10 → 0 < d → Going s 1 d
-    going-first l p = record {
+    pub digits-first : d < 10 → 0 < d → DigitsRead s 1 d
+    digits-first l p = record {
       tick = d;
       some = p;
-      told = omega arith;
+      capped = omega arith;
       inside = omega arith;
       reads =
           ap frontOf (drop-at s 0 h) ∙ front-grow (getD s 0 0) (drop 1 s) (omega arith) (omega arith)
           ∙ ap (λ (v : ℕ). grow v (drop 1 s)) (sym q);
     }
 
-  module _ {end value : ℕ} (g : Going s end value) where
-    going-value : (v : ℕ) → v ≡ min value ticks → grow (g .tick) (drop end s) ≡ number (g .tick) (drop end s) → IsNumber s end v
-    going-value v c e = record { tick = g .tick; front = g .reads ∙ e; told = c ∙ g .told; inside = g .inside }
+  module _ {end value : ℕ} (g : DigitsRead s end value) where
+    digits-value : (v : ℕ) → v ≡ min value ticks → grow (g .tick) (drop end s) ≡ number (g .tick) (drop end s) → IsNumber s end v
+    digits-value v c e = record { tick = g .tick; front = g .reads ∙ e; capped = c ∙ g .capped; inside = g .inside }
 
     pub value-end : (v : ℕ) → v ≡ min value ticks → length s ≤ end → IsNumber s end v
     unfolding grow
-    value-end v c h = going-value v c (ap (grow (g .tick)) (drop-of-length-le s h) ∙ ap (number (g .tick)) (sym (drop-of-length-le s h)))
+    value-end v c h = digits-value v c (ap (grow (g .tick)) (drop-of-length-le s h) ∙ ap (number (g .tick)) (sym (drop-of-length-le s h)))
 
     module _ (h : end < length s) (d : ℕ) (q : d ≡ digitOf (getD s end 0)) where
       pub value-other : (v : ℕ) → v ≡ min value ticks → 10 ≤ d → IsNumber s end v
       value-other v c l =
-          going-value v c (ap (grow (g .tick)) (drop-at s end h) ∙ grow-other (getD s end 0) (drop (end + 1) s) (g .tick) (omega arith)
+          digits-value v c (ap (grow (g .tick)) (drop-at s end h) ∙ grow-other (getD s end 0) (drop (end + 1) s) (g .tick) (omega arith)
           ∙ ap (number (g .tick)) (sym (drop-at s end h)))
 
       grows : (k : Dec (value < ticks)) → min (pick k (value * 10 + d) value) ticks ≡ min (g .tick * 10 + d) ticks
-      grows (yes k) = omega (arith, g .told)
-      grows (no k) = omega (arith, g .told)
+      grows (yes k) = omega (arith, g .capped)
+      grows (no k) = omega (arith, g .capped)
 
-      pub going-more : (value′ : ℕ) → d < 10 → value′ ≡ pick (decLt value ticks) (value * 10 + d) value → Going s (end + 1) value′
-      going-more value′ l e = record {
+      pub digits-more : (value′ : ℕ) → d < 10 → value′ ≡ pick (decLt value ticks) (value * 10 + d) value → DigitsRead s (end + 1) value′
+      digits-more value′ l e = record {
         tick = g .tick * 10 + d;
         some = omega (arith, g .some);
-        told = ap (λ (v : ℕ). min v ticks) e ∙ grows (decLt value ticks);
+        capped = ap (λ (v : ℕ). min v ticks) e ∙ grows (decLt value ticks);
         inside = omega arith;
         reads =
             g .reads ∙ ap (grow (g .tick)) (drop-at s end h)
@@ -155,9 +155,9 @@ module _ (s : List ℕ) where
       line-of p = line-parsed s (i .tick) w (parsed-word ∙ word-some (i .tick) w (omega arith))
 
       pub out-of-range : length s ≤ mostLine → (w ≡ 0 → ⊥) → ticks ≤ value → IsRange s
-      out-of-range short p o = record { short = short; tick = i .tick; events = w; line = line-of p; over = omega (arith, i .told) }
+      out-of-range short p o = record { short = short; tick = i .tick; events = w; line = line-of p; over = omega (arith, i .capped) }
 
       pub in-range : length s ≤ mostLine → (w ≡ 0 → ⊥) → value < ticks → IsTick s value w
       in-range short p o =
-          let e : i .tick ≡ value = omega (arith, i .told) in
+          let e : i .tick ≡ value = omega (arith, i .capped) in
           record { short = short; line = rw (← e) (line-of p); range = o }

@@ -3,7 +3,7 @@
 use mathlib.Core.Path.{_≡_, refl, sym, ap, _∙_, subst}
 use mathlib.Core.Logic.{_⊎_, inl, inr}
 use mathlib.Core.Bool.{cond}
-use Prim.Native.Nat.{ℕ, _+_, _^_, _<_, _≤_}
+use Prim.Native.Nat.{ℕ, _<_, _≤_}
 use native.Mathlib.Omega.{arith}
 use mathlib.Core.List.{List, [], _∷_, _++_}
 use lib.Dec.{ltb}
@@ -11,8 +11,8 @@ use lib.ListN.{length, drop, length-append}
 use borrow.Author.Tests.{lt-ltb, le-ltb}
 use Rattle.rules.specs.Limits.{letters, ticks}
 use Rattle.refusal.specs.declared.Refusal.the-variants.{Line, Range, Room}
-use Rattle.text.proofs.Branches.{by-test, either-way}
-use Rattle.line.specs.Lines.{mostLine, mostDigits, tickLine, numbersLine, windowsWord, ticksWord, refusedWord, codeWord}
+use Rattle.decimal.proofs.Branches.{by-test, either-way}
+use Rattle.line.specs.Lines.{mostLine, tickLine, windowsWord, ticksWord, refusedWord, codeWord}
 use Rattle.line.specs.Answer.{LineOf, IsRange, RefusedLine, LineReadOf}
 use Rattle.line.specs.Answer.RefusedLine.{long, malformed, range}
 use Rattle.line.specs.Answer.RefusedWriting.{room}
@@ -23,7 +23,8 @@ use Rattle.line.specs.declared.LineRead.{LineRead}
 use Rattle.line.specs.declared.LineRead.the-variants.{Tick, Refused as Unread}
 use Rattle.line.specs.declared.LineWritten.{LineWritten}
 use Rattle.line.specs.declared.LineWritten.the-variants.{Written, Refused as Unwritten}
-use Rattle.line.proofs.Decimals.{decimal-length, decimal-fits}
+use Rattle.decimal.proofs.Decimals.{decimal-length}
+use Rattle.line.proofs.Writings.{line-length}
 use Rattle.line.proofs.Letters.{letters-length}
 use Rattle.line.proofs.Parses.{parse-line, line-parsed}
 
@@ -117,11 +118,6 @@ one-writing bytes d d₁ d₂ r₁ r₂ a b = either-way (length d) (length byte
     fits h = same (written-fits bytes d d₁ r₁ a h) (written-fits bytes d d₂ r₂ b h)
 
 -- ---- lengths
-
-line-length : (one two : List ℕ) (a b : ℕ) → a < 2 ^ 64 → b < 2 ^ 64
-    → length (numbersLine one a two b) ≤ length one + mostDigits + length two + mostDigits + 1
-line-length one two a b p q =
-    simp length-append (omega (arith, decimal-fits a p, decimal-fits b q))
 
 pub at-most-written : AtMostWritten
 at-most-written a b p q = (

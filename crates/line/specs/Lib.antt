@@ -2,4 +2,4 @@ pub mod Lines
 pub mod Answer
 pub mod Claim
 pub mod Scan
-pub mod Told
+pub mod Number

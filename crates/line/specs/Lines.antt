@@ -5,7 +5,8 @@ use mathlib.Core.List.{List, [], _∷_, _++_}
 use lib.Dec.{eqb}
 use Rattle.rules.specs.Limits.{letters}
 use Rattle.rules.specs.Bits.{bit}
-use Rattle.text.specs.Render.{letterByte, digitsIn}
+use Rattle.decimal.specs.Decimal.{decimal}
+use Rattle.text.specs.Render.{letterByte}
 
 -- the bytes that a tick's line may have
 abbrev pub mostLine : ℕ
@@ -22,10 +23,6 @@ mostWritten = 60
 -- the bytes that the tally's line can have; no line is longer
 abbrev pub mostTally : ℕ
 mostTally = 60
-
--- a number of any size in decimal, with no leading zero except for 0 itself; n has at most n + 1 digits
-unfoldable pub decimal : ℕ → List ℕ
-decimal n = digitsIn (suc n) n
 
 -- the letter of event type n, if a word of events has it
 abbrev pub letterIf : ℕ → ℕ → List ℕ

@@ -7,7 +7,7 @@ ghost use lib.ListN.{length, drop};
 ghost use Rattle.rules.specs.Decisions.{pick};
 ghost use Rattle.rules.specs.Limits.{ticks};
 ghost use Rattle.line.specs.Scan.{wordOf};
-ghost use Rattle.line.specs.Told.{NumberOf};
+ghost use Rattle.line.specs.Number.{NumberOf};
 
 // The number of event types.
 const LETTERS: u8 = 32;

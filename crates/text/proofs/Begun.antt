@@ -8,15 +8,17 @@ use lib.Dec.{ltb, eqb}
 use borrow.Author.Tests.{ltb-true, eqb-true}
 use Rattle.rules.specs.Limits.{letters}
 use Rattle.rules.specs.Pattern.{Pattern, event, pair, within, Proper}
-use Rattle.text.specs.Render.{numbers, opByte, digits, render}
+use Rattle.decimal.specs.Decimal.{decimal}
+use Rattle.decimal.proofs.Decimals.{decimal-one, decimal-next}
+use Rattle.text.specs.Render.{numbers, opByte, render}
 use Rattle.text.specs.Grammar.{Begins}
 use Rattle.text.specs.Characters.{letterOf, digitOf}
 use Rattle.text.specs.Machine.{Frame, State, Move, grows, step, afterSign}
 use Rattle.text.specs.Machine.Frame.{first, second}
 use Rattle.text.specs.Machine.State.{want, have, limit, number}
 use Rattle.text.specs.Machine.Move.{none, to}
-use Rattle.text.proofs.Branches.{by-test}
-use Rattle.text.proofs.Bytes.{byte-letter, sign-cases, byte-digit, digits-one, digits-next, grows-true}
+use Rattle.decimal.proofs.Branches.{by-test}
+use Rattle.text.proofs.Bytes.{byte-letter, sign-cases, byte-digit, grows-true}
 use Rattle.text.proofs.Complete.{cap-step, digit-step, shut-step}
 
 -- the text that a state has read
@@ -29,7 +31,7 @@ abbrev pub sofar : State → List ℕ
 sofar (want K) = opens K
 sofar (have e K) = opens K ++ render e
 sofar (limit x K) = opens K ++ (40 ∷ (render x ++ (64 ∷ [])))
-sofar (number x v K) = opens K ++ (40 ∷ (render x ++ (64 ∷ digits v)))
+sofar (number x v K) = opens K ++ (40 ∷ (render x ++ (64 ∷ decimal v)))
 
 -- the patterns in a state are proper
 abbrev FineFrames : List Frame → Type 0
@@ -90,7 +92,7 @@ leads (limit x K) c f =
       (f .0, omega arith, f .1),
       after-number (opens K) c (render x) []
           ∙ ap (λ (w : List ℕ). opens K ++ (40 ∷ (render x ++ (64 ∷ w))))
-          (ap (λ (w : ℕ). w ∷ []) (sym (byte-digit c h)) ∙ sym (digits-one (digitOf c) h)),
+          (ap (λ (w : ℕ). w ∷ []) (sym (byte-digit c h)) ∙ sym (decimal-one (digitOf c) h)),
     ))
     (λ e. tt)
 leads (number x v K) c f =
@@ -98,15 +100,15 @@ leads (number x v K) c f =
     (grows v c)
     (λ e. let g = grows-true v c e in (
       (f .0, g .2, f .2),
-      after-number (opens K) c (render x) (digits v)
+      after-number (opens K) c (render x) (decimal v)
           ∙ ap (λ (w : List ℕ). opens K ++ (40 ∷ (render x ++ (64 ∷ w))))
-          (ap (λ (w : ℕ). digits v ++ (w ∷ [])) (sym (byte-digit c (g .0))) ∙ sym (digits-next v (digitOf c) (g .1) (g .0) (g .2))),
+          (ap (λ (w : ℕ). decimal v ++ (w ∷ [])) (sym (byte-digit c (g .0))) ∙ sym (decimal-next v (digitOf c) (g .1) (g .0))),
     ))
     (λ e. by-test (λ b. Leads (number x v K) c (cond b (to (have (within x v) K)) none)) (eqb c 41)
     (λ q. (
       ((f .0, f .1), f .2),
-      after-number (opens K) c (render x) (digits v)
-          ∙ ap (λ (w : ℕ). opens K ++ (40 ∷ (render x ++ (64 ∷ (digits v ++ (w ∷ [])))))) (eqb-true _ _ q),
+      after-number (opens K) c (render x) (decimal v)
+          ∙ ap (λ (w : ℕ). opens K ++ (40 ∷ (render x ++ (64 ∷ (decimal v ++ (w ∷ [])))))) (eqb-true _ _ q),
     ))
     (λ q. tt))
 

@@ -1,19 +1,18 @@
 -- Bytes and what they stand for, both ways: letters, signs and digits. Assumes nothing.
-use mathlib.Core.Path.{_≡_, refl, ap, ap₂, _∙_}
-use Prim.Native.Nat.{ℕ, zero, suc, _+_, _-_, _*_, _/_, _%_, _<_, _≤_}
+use mathlib.Core.Path.{_≡_, refl, ap, _∙_}
+use Prim.Native.Nat.{ℕ, _+_, _-_, _*_, _<_}
 use native.Mathlib.Omega.{arith}
-use mathlib.Core.List.{List, [], _∷_, _++_}
 use mathlib.Core.Bool.{Bool, true, false}
 use borrow.Author.Tests.{lt-ltb, le-ltb, le-leb, lt-leb, eq-eqb, ne-eqb}
 use Rattle.rules.proofs.Impossible.{impossible}
 use Rattle.rules.specs.declared.Op.{Op}
 use Rattle.rules.specs.declared.Op.the-variants.{Either, Both, Without, Chain}
 use Rattle.rules.specs.Limits.{letters}
-use Rattle.text.specs.Render.{numbers, mostDigits, letterByte, opByte, digitsIn, digits}
+use Rattle.text.specs.Render.{numbers, letterByte, opByte}
 use Rattle.text.specs.Characters.{letterOf, digitOf}
 use Rattle.text.specs.Machine.{Sign, signOf, grows}
 use Rattle.text.specs.Machine.Sign.{oper, cap, other}
-use Rattle.text.proofs.Branches.{either-way, either-is}
+use Rattle.decimal.proofs.Branches.{either-way, either-is}
 use Rattle.text.proofs.Numbers.{grows-over, grows-zero, grows-other}
 
 pub letter-byte : (n : ℕ) → n < letters → letterOf (letterByte n) ≡ n
@@ -69,34 +68,6 @@ byte-digit c =
     (λ a. either-way c 58
     (λ l. simp (le-ltb c 48 a, le-leb c 57 (omega arith)) (λ h. omega arith))
     (λ b. simp (le-ltb c 48 a, lt-leb c 57 b) (λ h. absurd (omega arith))))
-
--- 10 ^ k
-abbrev pub tens : ℕ → ℕ
-tens zero = 1
-tens (suc k) = tens k * 10
-
--- more room for digits changes nothing
-digits-more : (k n : ℕ) → n < tens (suc k) → digitsIn (suc k) n ≡ digitsIn (suc (suc k)) n
-unfolding digitsIn
-digits-more zero n h = simp (lt-ltb n 10 (omega arith))
-digits-more (suc k) n h =
-    either-way n 10 (λ l. simp (lt-ltb n 10 l))
-    (λ l. simp (le-ltb n 10 l) (ap (λ (w : List ℕ). w ++ ((n % 10 + 48) ∷ [])) (digits-more k (n / 10) (omega arith))))
-
-pub digits-one : (n : ℕ) → n < 10 → digits n ≡ (n + 48) ∷ []
-unfolding digitsIn
-digits-one n h = simp (lt-ltb n 10 h)
-
--- the last digit, after those of the tenth
-pub digits-last : (n : ℕ) → 10 ≤ n → n < numbers → digits n ≡ digits (n / 10) ++ ((n % 10 + 48) ∷ [])
-digits-last n l small = long ∙ ap (λ (w : List ℕ). w ++ ((n % 10 + 48) ∷ [])) (digits-more (mostDigits - 2) (n / 10) (omega arith))
-  where
-    long : digits n ≡ digitsIn (mostDigits - 1) (n / 10) ++ ((n % 10 + 48) ∷ [])
-    long = unfold digitsIn in simp (le-ltb n 10 l)
-
-pub digits-next : (v d : ℕ) → 0 < v → d < 10 → v * 10 + d < numbers → digits (v * 10 + d) ≡ digits v ++ ((d + 48) ∷ [])
-digits-next v d p h small =
-    digits-last (v * 10 + d) (omega arith) small ∙ ap₂ (λ (a b : ℕ). digits a ++ ((b + 48) ∷ [])) (omega arith) (omega arith)
 
 pub grows-true : (v c : ℕ) → grows v c ≡ true → (digitOf c < 10) × (0 < v) × (v * 10 + digitOf c < numbers)
 grows-true v c =

@@ -3,11 +3,13 @@ use mathlib.Core.Path.{_≡_, refl, sym, ap, _∙_}
 use Prim.Native.Nat.{ℕ, zero, suc, _+_, _-_, _*_, _/_, _%_, _<_}
 use native.Mathlib.Omega.{arith}
 use mathlib.Core.List.{List, [], _∷_, _++_, append-assoc, append-nil}
-use borrow.Author.Tests.{lt-ltb, le-ltb}
+use borrow.Author.Tests.{lt-ltb}
 use Rattle.rules.specs.declared.Op.{Op}
 use Rattle.rules.specs.Limits.{letters}
 use Rattle.rules.specs.Pattern.{Pattern, event, pair, within, Proper}
-use Rattle.text.specs.Render.{numbers, mostDigits, letterByte, opByte, digitsIn, digits, render}
+use Rattle.decimal.specs.Decimal.{decimal}
+use Rattle.decimal.proofs.Decimals.{tens, decimal-one, decimal-last}
+use Rattle.text.specs.Render.{numbers, mostDigits, letterByte, opByte, render}
 use Rattle.text.specs.Grammar.{TextOf}
 use Rattle.text.specs.Characters.{letterOf, digitOf}
 use Rattle.text.specs.Machine.{Frame, State, Move, signOf, grows, step, afterSign, follow, run}
@@ -15,9 +17,9 @@ use Rattle.text.specs.Machine.Frame.{first, second}
 use Rattle.text.specs.Machine.State.{want, have, limit, number}
 use Rattle.text.specs.Machine.Outcome.{whole}
 use Rattle.text.specs.Machine.Move.{to}
-use Rattle.text.proofs.Branches.{either-way}
+use Rattle.decimal.proofs.Branches.{either-way}
 use Rattle.text.proofs.Numbers.{grows-on}
-use Rattle.text.proofs.Bytes.{letter-byte, sign-byte, digit-byte, tens}
+use Rattle.text.proofs.Bytes.{letter-byte, sign-byte, digit-byte}
 
 -- one byte that leads on
 pub on : (σ τ : State) (c : ℕ) (t : List ℕ) → step σ c ≡ to τ → run σ (c ∷ t) ≡ run τ t
@@ -51,18 +53,17 @@ shut-step x v K = refl
 
 -- the digits of a number are read as that number
 numbered : (k n : ℕ) (x : Pattern) (K : List Frame) (t : List ℕ) → n < tens (suc k) → n < numbers
-    → run (limit x K) (digitsIn (suc k) n ++ t) ≡ run (number x n K) t
-unfolding digitsIn
-numbered zero n x K t h small = simp (lt-ltb n 10 (omega arith)) (on (limit x K) (number x n K) (n + 48) t (digit-step n x K (omega arith)))
+    → run (limit x K) (decimal n ++ t) ≡ run (number x n K) t
+numbered zero n x K t h small = rw (decimal-one n (omega arith)) (on (limit x K) (number x n K) (n + 48) t (digit-step n x K (omega arith)))
 numbered (suc k) n x K t h small =
     either-way n 10
-    (λ l. simp (lt-ltb n 10 l) (on (limit x K) (number x n K) (n + 48) t (digit-step n x K l)))
-    (λ l. simp (le-ltb n 10 l)
-    (ap (run (limit x K)) (append-assoc (digitsIn (suc k) (n / 10)) ((n % 10 + 48) ∷ []) t)
+    (λ l. rw (decimal-one n l) (on (limit x K) (number x n K) (n + 48) t (digit-step n x K l)))
+    (λ l. ap (λ (w : List ℕ). run (limit x K) (w ++ t)) (decimal-last n l)
+    ∙ ap (run (limit x K)) (append-assoc (decimal (n / 10)) ((n % 10 + 48) ∷ []) t)
     ∙ numbered k (n / 10) x K ((n % 10 + 48) ∷ t) (omega arith) (omega arith)
     ∙ on (number x (n / 10) K) (number x (n / 10 * 10 + n % 10) K) (n % 10 + 48) t
     (more-step (n / 10) (n % 10) x K (omega arith) (omega arith) (omega arith))
-    ∙ ap (λ (v : ℕ). run (number x v K) t) (omega arith)))
+    ∙ ap (λ (v : ℕ). run (number x v K) t) (omega arith))
 
 -- what stands between two operands and a bracket
 regroup : (x y t : List ℕ) (c : ℕ) → (x ++ (c ∷ y ++ (41 ∷ []))) ++ t ≡ x ++ (c ∷ (y ++ (41 ∷ t)))
@@ -80,8 +81,8 @@ complete (pair op x y) K t h =
     ∙ on (have y (second op x ∷ K)) (have (pair op x y) K) 41 t refl
 complete (within x n) K t h =
     on (want K) (want (first ∷ K)) 40 _ (open-step K)
-    ∙ ap (run (want (first ∷ K))) (regroup (render x) (digits n) t 64)
-    ∙ complete x (first ∷ K) (64 ∷ (digits n ++ (41 ∷ t))) (h .0)
+    ∙ ap (run (want (first ∷ K))) (regroup (render x) (decimal n) t 64)
+    ∙ complete x (first ∷ K) (64 ∷ (decimal n ++ (41 ∷ t))) (h .0)
     ∙ on (have x (first ∷ K)) (limit x K) 64 _ (cap-step x K)
     ∙ numbered (mostDigits - 1) n x K (41 ∷ t) (omega (arith, h .1)) (h .1)
     ∙ on (number x n K) (have (within x n) K) 41 t (shut-step x n K)

@@ -102,19 +102,19 @@ printOf e d =
     cond (ltb (length d) (length (render e))) (record { answer = Unprinted (Room (length (render e))); slice = d })
     (record { answer = Printed (length (render e)); slice = render e ++ drop (length (render e)) d })
 
-data Told (b d d′ : List ℕ) (r : Printing) : Type 0 where
-  refused : (q : Refusal) → checkOf argumentBytes b ≡ Unsound q → r ≡ Unprinted q → d′ ≡ d → Told b d d′ r
-  printed : (e : Pattern) → BodyOf argumentBytes b e → printOf e d ≡ record { answer = r; slice = d′ } → Told b d d′ r
+data Decision (b d d′ : List ℕ) (r : Printing) : Type 0 where
+  refused : (q : Refusal) → checkOf argumentBytes b ≡ Unsound q → r ≡ Unprinted q → d′ ≡ d → Decision b d d′ r
+  printed : (e : Pattern) → BodyOf argumentBytes b e → printOf e d ≡ record { answer = r; slice = d′ } → Decision b d d′ r
 
-told : (b d d′ : List ℕ) (r : Printing) → PrintingOf b d d′ r → Told b d d′ r
+decision : (b d d′ : List ℕ) (r : Printing) → PrintingOf b d d′ r → Decision b d d′ r
 unfolding printOf
-told b d d′ (Printed bytes) a =
+decision b d d′ (Printed bytes) a =
     printed (a .some .tree) (a .some .body)
     (simp (le-ltb (length d) (length (render (a .some .tree))) (omega (arith, a .counts, a .fits)))
     (ap₂ (λ (k : ℕ) (w : List ℕ). record { answer = Printed k; slice = w }) (sym (a .counts))
     (ap (λ (k : ℕ). render (a .some .tree) ++ drop k d) (sym (a .counts)) ∙ sym (a .written))))
-told b d d′ (Unprinted r) (unsound a, k) = refused r (a .unsound) refl k
-told b d d′ (Unprinted r) (text-room a, k) =
+decision b d d′ (Unprinted r) (unsound a, k) = refused r (a .unsound) refl k
+decision b d d′ (Unprinted r) (text-room a, k) =
     printed (a .some .tree) (a .some .body)
     (simp (lt-ltb (length d) (length (render (a .some .tree))) (omega (arith, a .needs, a .lacks)))
     (ap₂ (λ (k : ℕ) (w : List ℕ). record { answer = Unprinted (Room k); slice = w }) (sym (a .needs)) (sym k)))
@@ -126,9 +126,9 @@ no-refusal b e q h p =
     impossible cc
 
 pub one-printing : OnePrinting
-one-printing b d d₁ d₂ r₁ r₂ a₁ a₂ = go (told b d d₁ r₁ a₁) (told b d d₂ r₂ a₂)
+one-printing b d d₁ d₂ r₁ r₂ a₁ a₂ = go (decision b d d₁ r₁ a₁) (decision b d d₂ r₂ a₂)
   where
-    go : Told b d d₁ r₁ → Told b d d₂ r₂ → (r₁ ≡ r₂) × (d₁ ≡ d₂)
+    go : Decision b d d₁ r₁ → Decision b d d₂ r₂ → (r₁ ≡ r₂) × (d₁ ≡ d₂)
     go (refused q₁ c₁ e₁ k₁) (refused q₂ c₂ e₂ k₂) = ((let z : q₁ ≡ q₂ = cc in cc), k₁ ∙ sym k₂)
     go (refused q₁ c₁ e₁ k₁) (printed e h p) = no-refusal b e q₁ h c₁
     go (printed e h p) (refused q₂ c₂ e₂ k₂) = no-refusal b e q₂ h c₂

@@ -1,26 +1,18 @@
 -- How long a pattern's text can be. Assumes nothing.
-use Prim.Native.Nat.{ℕ, zero, suc, _+_, _*_, _/_, _≤_}
+use Prim.Native.Nat.{_+_, _-_, _*_, _≤_}
 use native.Mathlib.Omega.{arith}
 use lib.ListN.{length, length-append}
-use borrow.Author.Tests.{lt-ltb, le-ltb}
 use Rattle.rules.specs.Limits.{mostEntries}
-use Rattle.rules.specs.Pattern.{Pattern, event, pair, within, size}
-use Rattle.text.specs.Render.{mostDigits, mostPrinted, digitsIn, render}
-use Rattle.text.proofs.Branches.{either-way}
-
-digits-length : (most n : ℕ) → length (digitsIn most n) ≤ most
-unfolding digitsIn
-digits-length zero n = omega arith
-digits-length (suc most) n =
-    either-way n 10 (λ l. simp (lt-ltb n 10 l) (omega arith))
-    (λ l. simp (le-ltb n 10 l, length-append) (omega (arith, digits-length most (n / 10))))
+use Rattle.rules.specs.Pattern.{Pattern, event, pair, within, size, Proper}
+use Rattle.decimal.proofs.Decimals.{decimal-length}
+use Rattle.text.specs.Render.{numbers, mostDigits, mostPrinted, render}
 
 -- a letter is one byte, and every further entry adds at most three and the digits of a number
-render-length : (e : Pattern) → length (render e) + (mostDigits + 2) ≤ size e * (mostDigits + 3)
+render-length : (e : Pattern) → Proper numbers e → length (render e) + (mostDigits + 2) ≤ size e * (mostDigits + 3)
 unfolding size
-render-length (event n) = omega arith
-render-length (pair op x y) = simp length-append (omega (arith, render-length x, render-length y))
-render-length (within x n) = simp length-append (omega (arith, render-length x, digits-length mostDigits n))
+render-length (event n) p = omega arith
+render-length (pair op x y) p = simp length-append (omega (arith, render-length x (p .0), render-length y (p .1)))
+render-length (within x n) p = simp length-append (omega (arith, render-length x (p .0), decimal-length (mostDigits - 1) n (omega (arith, p .1))))
 
-pub most-printed : (e : Pattern) → size e ≤ mostEntries → length (render e) ≤ mostPrinted
-most-printed e h = omega (arith, render-length e)
+pub most-printed : (e : Pattern) → Proper numbers e → size e ≤ mostEntries → length (render e) ≤ mostPrinted
+most-printed e p h = omega (arith, render-length e p)

@@ -1,5 +1,4 @@
 -- bytes and numbers
-pub mod Branches
 pub mod Steps
 pub mod Numbers
 pub mod Bytes
@@ -11,7 +10,6 @@ pub mod Begun
 pub mod Sound
 pub mod Readings
 -- printing
-pub mod Backwards
 pub mod Trees
 pub mod Lengths
 pub mod Printings

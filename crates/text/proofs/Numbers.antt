@@ -1,4 +1,4 @@
--- The ways that `read_number` goes. Assumes nothing.
+-- The ways that `read_number` ends. Assumes nothing.
 use mathlib.Core.Path.{_≡_, refl, sym, ap, _∙_}
 use Prim.Native.Nat.{ℕ, _+_, _*_, _<_, _≤_}
 use native.Mathlib.Omega.{arith}
@@ -12,11 +12,11 @@ use Rattle.text.specs.Render.{numbers}
 use Rattle.text.specs.Characters.{digitOf}
 use Rattle.text.specs.Machine.{Frame, grows, run, shut}
 use Rattle.text.specs.Machine.State.{limit, number}
-use Rattle.text.specs.Told.{IsValue, IsBad}
-use Rattle.text.proofs.Branches.{by-test, either-way}
+use Rattle.text.specs.Helpers.{IsValue, IsBad}
+use Rattle.decimal.proofs.Branches.{by-test, either-way}
 use Rattle.text.proofs.Steps.{run-to, run-no, run-end, number-shut, number-end}
 
--- a byte that is no digit, a digit after 0, and a digit too many: none goes on
+-- a byte that is no digit, a digit after 0, and a digit too many: none makes the number longer
 pub grows-other : (v c : ℕ) → 10 ≤ digitOf c → grows v c ≡ false
 unfolding grows
 grows-other v c h = simp (le-ltb _ _ h)
@@ -38,7 +38,7 @@ unfolding digitOf
 digit-not-shut c h = ne-eqb c 41 (λ e. let z : digitOf 41 ≡ 10 = refl in omega (arith, ap digitOf e))
 
 -- the digits from `at` to `end` make the number v, which is not 0
-pub record Going (s : List ℕ) (at end v : ℕ) : Type 0 where
+pub record DigitsRead (s : List ℕ) (at end v : ℕ) : Type 0 where
   pub ahead : at < end
   pub inside : end ≤ length s
   pub some : 0 < v
@@ -68,8 +68,8 @@ module _ (s : List ℕ) (at : ℕ) where
     reads = λ x K. first-digit h (omega arith) x K ∙ ap (λ (v : ℕ). run (number x v K) (drop (at + 1) s)) q ∙ zero-alone x K (at + 1);
   }
 
-  pub going-first : (d : ℕ) → at < length s → d ≡ digitOf (getD s at 0) → d < 10 → 0 < d → Going s at (at + 1) d
-  going-first d h q small some = record {
+  pub digits-first : (d : ℕ) → at < length s → d ≡ digitOf (getD s at 0) → d < 10 → 0 < d → DigitsRead s at (at + 1) d
+  digits-first d h q small some = record {
     ahead = omega arith;
     inside = omega arith;
     some = some;
@@ -77,7 +77,7 @@ module _ (s : List ℕ) (at : ℕ) where
     reads = λ x K. first-digit h (omega arith) x K ∙ ap (λ (v : ℕ). run (number x v K) (drop (at + 1) s)) (sym q);
   }
 
-  module _ (end v : ℕ) (g : Going s at end v) where
+  module _ (end v : ℕ) (g : DigitsRead s at end v) where
     pub value-other : end < length s → 10 ≤ digitOf (getD s end 0) → IsValue s at end v
     value-other h q = record {
       ahead = g .ahead;
@@ -104,8 +104,8 @@ module _ (s : List ℕ) (at : ℕ) where
           no-bracket : eqb (getD s end 0) 41 ≡ false
           no-bracket = digit-not-shut (getD s end 0) (omega arith)
 
-      pub going-more : v * 10 + d < numbers → Going s at (end + 1) (v * 10 + d)
-      going-more small = record {
+      pub digits-more : v * 10 + d < numbers → DigitsRead s at (end + 1) (v * 10 + d)
+      digits-more small = record {
         ahead = omega arith;
         inside = omega arith;
         some = omega (arith, g .some);

@@ -1,9 +1,9 @@
--- The ways that `print_pattern` goes: one lemma for each answer. Assumes nothing.
-use mathlib.Core.Path.{_≡_, refl, sym, ap, _∙_}
+-- The ways that `print_pattern` ends: one lemma for each answer. Assumes nothing.
+use mathlib.Core.Path.{_≡_, sym, ap, _∙_}
 use Prim.Native.Nat.{ℕ, _-_, _/_, _<_, _≤_}
 use native.Mathlib.Omega.{arith}
 use mathlib.Core.List.{List, [], _++_}
-use lib.ListN.{length, take, drop, replicate}
+use lib.ListN.{length, take, drop, replicate, length-replicate}
 use lib.Seq.{take-at, take-all}
 use Rattle.rules.specs.Limits.{argumentBytes}
 use Rattle.body.specs.declared.BodyCheck.the-variants.{Sound}
@@ -13,7 +13,7 @@ use Rattle.body.specs.Check.{checkOf}
 use Rattle.body.proofs.Bodies.{sound-pattern, entries-encode}
 use Rattle.text.specs.Render.{mostPrinted, render}
 use Rattle.text.specs.Answer.{IsBody, IsTextRoom, IsPrinted}
-use Rattle.text.specs.Told.{entryLength, Ends, TreeReady, IsTree, TreeWritten}
+use Rattle.text.specs.Helpers.{entryLength, Ends, TreeReady, IsTree, TreeWritten}
 use Rattle.text.proofs.Lengths.{most-printed}
 
 module _ (b : List ℕ) (w : Bytes b) (p : checkOf argumentBytes b ≡ Sound) where
@@ -27,16 +27,14 @@ module _ (b : List ℕ) (w : Bytes b) (p : checkOf argumentBytes b ≡ Sound) wh
       ∙ entries-encode argumentBytes (omega arith) (is-body .tree) (is-body .body .bodied .proper)
 
   text-fits : length (render (is-body .tree)) ≤ mostPrinted
-  text-fits = most-printed (is-body .tree) (is-body .body .bodied .few)
+  text-fits = most-printed (is-body .tree) (is-body .body .bodied .proper) (is-body .body .bodied .few)
 
-  pub body-ready : TreeReady b (length b / entryLength) mostPrinted
+  pub body-ready : TreeReady b (length b / entryLength)
   body-ready = record {
     tree = is-body .tree;
     others = [];
     ends = all-entries;
     proper = is-body .body .bodied .proper;
-    room = text-fits;
-    inside = omega arith;
   }
 
   module _ {m : List ℕ} {entry byte : ℕ} (t : TreeWritten b (length b / entryLength) (replicate mostPrinted 0) m mostPrinted entry byte) where
@@ -44,16 +42,18 @@ module _ (b : List ℕ) (w : Bytes b) (p : checkOf argumentBytes b ≡ Sound) wh
     printed = t [] (is-body .tree) all-entries
 
     pub begin-inside : byte ≤ mostPrinted
-    begin-inside = omega (arith, printed .text .room)
+    begin-inside = omega (arith, printed .text .begins)
 
     pub made-length : length m ≡ mostPrinted
-    made-length = printed .text .written refl .0
+    made-length = printed .text .long ∙ length-replicate {A = ℕ} mostPrinted 0
 
     bytes : mostPrinted - byte ≡ length (render (is-body .tree))
-    bytes = omega (arith, printed .text .room)
+    bytes = omega (arith, printed .text .begins, text-fits)
 
     made : take (mostPrinted - byte) (drop byte m) ≡ render (is-body .tree)
-    made = ap (take (mostPrinted - byte)) (printed .text .written refl .1) ∙ take-at (render (is-body .tree)) _ (mostPrinted - byte) (sym bytes)
+    made =
+        ap (take (mostPrinted - byte)) (printed .text .written text-fits (omega (arith, length-replicate {A = ℕ} mostPrinted 0)))
+        ∙ take-at (render (is-body .tree)) _ (mostPrinted - byte) (sym bytes)
 
     pub no-room : (d : List ℕ) → length d < mostPrinted - byte → IsTextRoom b d (mostPrinted - byte)
     no-room d h = record { some = is-body; needs = bytes; lacks = h }

@@ -1,4 +1,4 @@
--- The ways that `read_pattern` goes: one lemma for each answer. Assumes nothing.
+-- The ways that `read_pattern` ends: one lemma for each answer. Assumes nothing.
 use mathlib.Core.Path.{_≡_, refl, sym, ap, _∙_}
 use Prim.Native.Nat.{ℕ, _*_, _<_, _≤_, _-_}
 use native.Mathlib.Nat.{sub-zero}
@@ -13,7 +13,7 @@ use Rattle.text.specs.Answer.{IsText, IsSyntax, IsMany, IsRoom, IsRead}
 use Rattle.text.specs.Machine.{run}
 use Rattle.text.specs.Machine.State.{have}
 use Rattle.text.specs.Machine.Outcome.{whole}
-use Rattle.text.specs.Told.{entryLength, bodyLength, IsExpression, NoExpression}
+use Rattle.text.specs.Helpers.{entryLength, bodyLength, IsExpression, NoExpression}
 use Rattle.text.proofs.Steps.{run-no}
 use Rattle.text.proofs.Sound.{broken, text-of}
 

@@ -14,7 +14,7 @@ use Rattle.text.specs.Machine.{State, Outcome, Move, step, ended, follow
 use Rattle.text.specs.Machine.State.{want, have, limit, number}
 use Rattle.text.specs.Machine.Outcome.{whole, stopped}
 use Rattle.text.specs.Machine.Move.{none, to}
-use Rattle.text.proofs.Branches.{either-way}
+use Rattle.decimal.proofs.Branches.{either-way}
 use Rattle.text.proofs.Complete.{on, complete-whole}
 use Rattle.text.proofs.Begun.{sofar, Fine, leads-to, begins-state}
 

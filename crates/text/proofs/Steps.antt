@@ -14,7 +14,7 @@ use Rattle.text.specs.Machine.Frame.{second}
 use Rattle.text.specs.Machine.State.{have, number}
 use Rattle.text.specs.Machine.Outcome.{stopped}
 use Rattle.text.specs.Machine.Move.{none, to}
-use Rattle.text.proofs.Branches.{either-way, either-is}
+use Rattle.decimal.proofs.Branches.{either-way, either-is}
 
 run-cons : (σ : State) (c : ℕ) (t l : List ℕ) → l ≡ c ∷ t → run σ l ≡ follow (step σ c) (λ τ. run τ t) l
 unfolding run

@@ -33,7 +33,7 @@ pub one-pattern : OnePattern
 one-pattern = one-tree
 
 pub at-most-printed : AtMostPrinted
-at-most-printed b e h = most-printed e (h .bodied .few)
+at-most-printed b e h = most-printed e (h .bodied .proper) (h .bodied .few)
 
 -- the answers that the text of a pattern and the body of a pattern have
 readable-read : (s d : List ℕ) (e : Pattern) → Readable s d e

@@ -1,6 +1,6 @@
--- The ways that `write_tree` goes: the last entry says what tree it ends, and where its operands end. Assumes nothing.
+-- The ways through `write_tree`: the last entry says what tree it ends, and where its operands end. Assumes nothing.
 use mathlib.Core.Path.{_≡_, refl, sym, ap, _∙_, subst}
-use Prim.Native.Nat.{ℕ, zero, suc, _+_, _-_, _<_, _≤_}
+use Prim.Native.Nat.{ℕ, zero, suc, _+_, _-_, _<_}
 use native.Mathlib.Omega.{arith}
 use mathlib.Core.List.{List, [], _∷_, _++_, append-assoc}
 use lib.ListN.{length, length-append}
@@ -14,9 +14,11 @@ use Rattle.body.specs.Entry.{entriesBy, entryAt}
 use Rattle.body.specs.Postfix.{postfix}
 use Rattle.body.proofs.Trees.{size-pos, length-postfix}
 use Rattle.body.proofs.Bodies.{length-by}
-use Rattle.text.specs.Render.{numbers, mostPrinted, letterByte, opByte, digits, render}
-use Rattle.text.specs.Told.{Backward, NumberReady, Ends, TreeReady, IsTree, TreeWritten}
-use Rattle.text.proofs.Backwards.{before-back}
+use Rattle.decimal.specs.Decimal.{decimal}
+use Rattle.decimal.specs.Backward.{Backward}
+use Rattle.decimal.proofs.Backwards.{before-back}
+use Rattle.text.specs.Render.{numbers, letterByte, opByte, render}
+use Rattle.text.specs.Helpers.{Ends, TreeReady, IsTree, TreeWritten}
 
 -- entries by index, where they are a list: its first part, its last entry, and their number
 module _ (f : ℕ → Entry) where
@@ -101,22 +103,14 @@ ends-in : {s : Entry} (b : List ℕ) (k : ℕ) (others : List Entry) (e : Patter
 ends-in b k others e s q = subst (EndsBy b k others e) (sym s) (ends-by b k others e q)
 
 -- no tree ends with an entry that breaks a rule by itself
-pub not-wrong : (b : List ℕ) (k end : ℕ) → Wrong ≡ entryAt argumentBytes b (k - 1) → TreeReady b k end → ⊥
-not-wrong b k end s r = ends-in b k (r .others) (r .tree) s (r .ends)
+pub not-wrong : (b : List ℕ) (k : ℕ) → Wrong ≡ entryAt argumentBytes b (k - 1) → TreeReady b k → ⊥
+not-wrong b k s r = ends-in b k (r .others) (r .tree) s (r .ends)
 
--- there is an entry, and room for a byte
-pub some-entry : (b : List ℕ) (k end : ℕ) → TreeReady b k end → 0 < k
-some-entry b k end r =
+-- there is an entry
+pub some-entry : (b : List ℕ) (k : ℕ) → TreeReady b k → 0 < k
+some-entry b k r =
     let n = count-entries (entryAt argumentBytes b) 0 k _ (r .ends) in
     omega (arith, length-append (r .others) (postfix (r .tree)), length-postfix (r .tree), size-pos (r .tree))
-
-render-some : (e : Pattern) → 0 < length (render e)
-render-some (event n) = omega arith
-render-some (pair op x y) = omega arith
-render-some (within x n) = omega arith
-
-pub some-room : (b : List ℕ) (k end : ℕ) → TreeReady b k end → (0 < end) × (end ≤ mostPrinted)
-some-room b k end r = (omega (arith, r .room, render-some (r .tree)), r .inside)
 
 -- a bracket, written backwards: `)`, what follows the sign, the sign, the left operand, `(`
 bracket-back : (d d₁ d₂ d₃ d₄ d₅ : List ℕ) (end shut mid middle byte start c : ℕ) (vs ws : List ℕ)
@@ -124,81 +118,56 @@ bracket-back : (d d₁ d₂ d₃ d₄ d₅ : List ℕ) (end shut mid middle byte
     → Backward d₃ d₄ middle byte vs → Backward d₄ d₅ byte start (40 ∷ [])
     → Backward d d₅ end start (40 ∷ (vs ++ (c ∷ (ws ++ (41 ∷ [])))))
 bracket-back d d₁ d₂ d₃ d₄ d₅ end shut mid middle byte start c vs ws t w u v o =
-    before-back d d₄ d₅ end byte start (40 ∷ []) (vs ++ (c ∷ (ws ++ (41 ∷ []))))
-    (before-back d d₃ d₄ end middle byte vs (c ∷ (ws ++ (41 ∷ [])))
-    (before-back d d₂ d₃ end mid middle (c ∷ []) (ws ++ (41 ∷ []))
-    (before-back d d₁ d₂ end shut mid ws (41 ∷ []) t w) u) v) o
+    before-back (before-back (before-back (before-back t w) u) v) o
 
-bracket-length : (c : ℕ) (vs ws : List ℕ) → length (40 ∷ (vs ++ (c ∷ (ws ++ (41 ∷ []))))) ≡ length vs + length ws + 3
-bracket-length c vs ws = simp length-append (omega arith)
-
-module _ (b : List ℕ) (k end : ℕ) where
+module _ (b : List ℕ) (k : ℕ) where
   -- a letter
   module _ (n : ℕ) (s : Letter n ≡ entryAt argumentBytes b (k - 1)) where
-    pub letter-ready : TreeReady b k end → n < letters
+    pub letter-ready : TreeReady b k → n < letters
     letter-ready r = let p = ends-in b k (r .others) (r .tree) s (r .ends) in subst (Proper numbers) (p .tree) (r .proper)
 
-    pub letter-written : (d d′ : List ℕ) (byte : ℕ) → Backward d d′ end byte (letterByte n ∷ []) → TreeWritten b k d d′ end (k - 1) byte
-    letter-written d d′ byte t others e q =
+    pub letter-written : (d d′ : List ℕ) (end byte : ℕ) → Backward d d′ end byte (letterByte n ∷ []) → TreeWritten b k d d′ end (k - 1) byte
+    letter-written d d′ end byte t others e q =
         let p = ends-in b k others e s q in
         record { first-entry = omega (arith, p .count); text = subst (λ (e : Pattern). Backward d d′ end byte (render e)) (sym (p .tree)) t }
 
   -- an operator
   module _ (op : Op) (s : Pair op ≡ entryAt argumentBytes b (k - 1)) where
-    module _ (r : TreeReady b k end) where
+    module _ (r : TreeReady b k) where
       parts : EndsPair b k (r .others) (r .tree) op
       parts = ends-in b k (r .others) (r .tree) s (r .ends)
 
       both-proper : Proper numbers (parts .left) × Proper numbers (parts .right)
       both-proper = subst (Proper numbers) (parts .tree) (r .proper)
 
-      both-room : length (render (parts .left)) + length (render (parts .right)) + 3 ≤ end
-      both-room =
-          let whole : length (render (pair op (parts .left) (parts .right))) ≤ end =
-          subst (λ (e : Pattern). length (render e) ≤ end) (parts .tree) (r .room) in
-          omega (arith, bracket-length (opByte op) (render (parts .left)) (render (parts .right)))
-
-      pub right-ready : (shut : ℕ) → shut + 1 ≡ end → TreeReady b (k - 1) shut
-      right-ready shut h = record {
+      pub right-ready : TreeReady b (k - 1)
+      right-ready = record {
         tree = parts .right;
         others = r .others ++ postfix (parts .left);
         ends = parts .ends;
         proper = both-proper .1;
-        room = omega (arith, both-room);
-        inside = omega (arith, r .inside);
       }
 
-      module _ (d d′ : List ℕ) (shut entry byte : ℕ) (h : shut + 1 ≡ end) (w : TreeWritten b (k - 1) d d′ shut entry byte) where
+      module _ (d d′ : List ℕ) (shut entry byte : ℕ) (w : TreeWritten b (k - 1) d d′ shut entry byte) where
         right-tree : IsTree d d′ shut (parts .right) (r .others ++ postfix (parts .left)) entry byte
         right-tree = w (r .others ++ postfix (parts .left)) (parts .right) (parts .ends)
-
-        pub sign-room : (0 < byte) × (byte ≤ mostPrinted)
-        sign-room = (omega (arith, right-tree .text .room, both-room), omega (arith, right-tree .text .room, r .inside))
 
         pub left-falls : entry < k
         left-falls = omega (arith, right-tree .first-entry, parts .count)
 
-        pub left-ready : (middle : ℕ) → middle + 1 ≡ byte → TreeReady b entry middle
-        left-ready middle g = record {
+        pub left-ready : TreeReady b entry
+        left-ready = record {
           tree = parts .left;
           others = r .others;
           ends = rw (right-tree .first-entry) (parts .starts);
           proper = both-proper .0;
-          room = omega (arith, right-tree .text .room, both-room);
-          inside = omega (arith, right-tree .text .room, r .inside);
         }
 
-        pub open-room : (d₁ d₂ : List ℕ) (middle entry₁ byte₁ : ℕ) → middle + 1 ≡ byte → TreeWritten b entry d₁ d₂ middle entry₁ byte₁
-            → (0 < byte₁) × (byte₁ ≤ mostPrinted)
-        open-room d₁ d₂ middle entry₁ byte₁ g v =
-            let l = v (r .others) (parts .left) (rw (right-tree .first-entry) (parts .starts)) in
-            (omega (arith, l .text .room, right-tree .text .room, both-room), omega (arith, l .text .room, right-tree .text .room, r .inside))
-
-    pub pair-written : (d d₁ d₂ d₃ d₄ d₅ : List ℕ) (shut entry byte middle entry₁ byte₁ start : ℕ)
+    pub pair-written : (d d₁ d₂ d₃ d₄ d₅ : List ℕ) (end shut entry byte middle entry₁ byte₁ start : ℕ)
         → Backward d d₁ end shut (41 ∷ []) → TreeWritten b (k - 1) d₁ d₂ shut entry byte
         → Backward d₂ d₃ byte middle (opByte op ∷ []) → TreeWritten b entry d₃ d₄ middle entry₁ byte₁
         → Backward d₄ d₅ byte₁ start (40 ∷ []) → TreeWritten b k d d₅ end entry₁ start
-    pair-written d d₁ d₂ d₃ d₄ d₅ shut entry byte middle entry₁ byte₁ start t w u v o others e q =
+    pair-written d d₁ d₂ d₃ d₄ d₅ end shut entry byte middle entry₁ byte₁ start t w u v o others e q =
         let p = ends-in b k others e s q in
         let y = w (others ++ postfix (p .left)) (p .right) (p .ends) in
         let x = v others (p .left) (rw (y .first-entry) (p .starts)) in
@@ -211,51 +180,25 @@ module _ (b : List ℕ) (k end : ℕ) where
 
   -- a restriction
   module _ (n : ℕ) (s : Within n ≡ entryAt argumentBytes b (k - 1)) where
-    module _ (r : TreeReady b k end) where
+    module _ (r : TreeReady b k) where
       part : EndsWithin b k (r .others) (r .tree) n
       part = ends-in b k (r .others) (r .tree) s (r .ends)
 
       part-proper : Proper numbers (part .left) × (n < numbers)
       part-proper = subst (Proper numbers) (part .tree) (r .proper)
 
-      part-room : length (render (part .left)) + length (digits n) + 3 ≤ end
-      part-room =
-          let whole : length (render (within (part .left) n)) ≤ end =
-          subst (λ (e : Pattern). length (render e) ≤ end) (part .tree) (r .room) in
-          omega (arith, bracket-length 64 (render (part .left)) (digits n))
+      pub limited-ready : TreeReady b (k - 1)
+      limited-ready = record { tree = part .left; others = r .others; ends = part .ends; proper = part-proper .0 }
 
-      pub number-ready : (shut : ℕ) → shut + 1 ≡ end → NumberReady n shut
-      number-ready shut h = record { small = part-proper .1; room = omega (arith, part-room); inside = omega (arith, r .inside) }
-
-      module _ (d d′ : List ℕ) (shut number : ℕ) (h : shut + 1 ≡ end) (w : Backward d d′ shut number (digits n)) where
-        pub cap-room : (0 < number) × (number ≤ mostPrinted)
-        cap-room = (omega (arith, w .room, part-room), omega (arith, w .room, r .inside))
-
-        pub limited-ready : (middle : ℕ) → middle + 1 ≡ number → TreeReady b (k - 1) middle
-        limited-ready middle g = record {
-          tree = part .left;
-          others = r .others;
-          ends = part .ends;
-          proper = part-proper .0;
-          room = omega (arith, w .room, part-room);
-          inside = omega (arith, w .room, r .inside);
-        }
-
-        pub bracket-room : (d₁ d₂ : List ℕ) (middle entry byte : ℕ) → middle + 1 ≡ number → TreeWritten b (k - 1) d₁ d₂ middle entry byte
-            → (0 < byte) × (byte ≤ mostPrinted)
-        bracket-room d₁ d₂ middle entry byte g v =
-            let l = v (r .others) (part .left) (part .ends) in
-            (omega (arith, l .text .room, w .room, part-room), omega (arith, l .text .room, w .room, r .inside))
-
-    pub within-written : (d d₁ d₂ d₃ d₄ d₅ : List ℕ) (shut number middle entry byte start : ℕ)
-        → Backward d d₁ end shut (41 ∷ []) → Backward d₁ d₂ shut number (digits n)
+    pub within-written : (d d₁ d₂ d₃ d₄ d₅ : List ℕ) (end shut number middle entry byte start : ℕ)
+        → Backward d d₁ end shut (41 ∷ []) → Backward d₁ d₂ shut number (decimal n)
         → Backward d₂ d₃ number middle (64 ∷ []) → TreeWritten b (k - 1) d₃ d₄ middle entry byte
         → Backward d₄ d₅ byte start (40 ∷ []) → TreeWritten b k d d₅ end entry start
-    within-written d d₁ d₂ d₃ d₄ d₅ shut number middle entry byte start t w u v o others e q =
+    within-written d d₁ d₂ d₃ d₄ d₅ end shut number middle entry byte start t w u v o others e q =
         let p = ends-in b k others e s q in
         let x = v others (p .left) (p .ends) in
         record {
           first-entry = x .first-entry;
           text = subst (λ (e : Pattern). Backward d d₅ end start (render e)) (sym (p .tree))
-              (bracket-back d d₁ d₂ d₃ d₄ d₅ end shut number middle byte start 64 (render (p .left)) (digits n) t w u (x .text) o);
+              (bracket-back d d₁ d₂ d₃ d₄ d₅ end shut number middle byte start 64 (render (p .left)) (decimal n) t w u (x .text) o);
         }

@@ -17,7 +17,7 @@ use Rattle.text.specs.Machine.{Frame, Sign, signOf, signNumber, run, shu
 use Rattle.text.specs.Machine.Frame.{first, second}
 use Rattle.text.specs.Machine.State.{want, have, limit}
 use Rattle.text.specs.Machine.Sign.{oper, cap, other}
-use Rattle.text.specs.Told.{Written, by, upTo, join, restEncode, IsValue, IsBad, IsExpression, NoExpression, IsTail, NoTail}
+use Rattle.text.specs.Helpers.{Written, by, upTo, join, restEncode, IsValue, IsBad, IsExpression, NoExpression, IsTail, NoTail}
 use Rattle.text.proofs.Steps.{run-to, run-no, run-end, shut-to, shut-no, shut-end, second-shut}
 use Rattle.text.proofs.Entries.{encode-event, written-after, encode-join, size-join}
 

@@ -4,4 +4,4 @@ pub mod Grammar
 pub mod Answer
 pub mod Claim
 pub mod Machine
-pub mod Told
+pub mod Helpers

@@ -1,5 +1,5 @@
 -- The text of a pattern (docs/RULES.md, "Pattern text"). Assumes nothing: these are definitions.
-use Prim.Native.Nat.{ℕ, zero, suc, _+_, _/_, _%_, _^_}
+use Prim.Native.Nat.{ℕ, _+_, _^_}
 use mathlib.Core.Bool.{cond}
 use mathlib.Core.List.{List, [], _∷_, _++_}
 use lib.Dec.{ltb}
@@ -7,6 +7,7 @@ use Rattle.rules.specs.declared.Op.{Op}
 use Rattle.rules.specs.declared.Op.the-variants.{Either, Both, Without, Chain}
 use Rattle.rules.specs.Limits.{argumentBytes}
 use Rattle.rules.specs.Pattern.{Pattern, event, pair, within}
+use Rattle.decimal.specs.Decimal.{decimal}
 
 -- the numbers of restrictions: 0 to 4,294,967,295
 abbrev pub numbers : ℕ
@@ -31,16 +32,8 @@ opByte Both = 43
 opByte Without = 45
 opByte Chain = 59
 
--- a number of at most `most` digits in decimal, with no leading zero except for 0 itself; 48 is `0`
-unfoldable pub digitsIn : ℕ → ℕ → List ℕ
-digitsIn zero n = []
-digitsIn (suc most) n = cond (ltb n 10) ((n + 48) ∷ []) (digitsIn most (n / 10) ++ ((n % 10 + 48) ∷ []))
-
-abbrev pub digits : ℕ → List ℕ
-digits n = digitsIn mostDigits n
-
 -- a letter, or `(` expression tail `)`; a tail is an operator and an expression, or `@` and a number; 40 is `(`, 41 is `)`, 64 is `@`
 abbrev pub render : Pattern → List ℕ
 render (event n) = letterByte n ∷ []
 render (pair op x y) = 40 ∷ render x ++ (opByte op ∷ render y ++ (41 ∷ []))
-render (within x n) = 40 ∷ render x ++ (64 ∷ digits n ++ (41 ∷ []))
+render (within x n) = 40 ∷ render x ++ (64 ∷ decimal n ++ (41 ∷ []))

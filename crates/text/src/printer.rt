@@ -3,11 +3,10 @@ use super::reader::SMALL;
 use body::Entry;
 use rules::Op;
 ghost use mathlib.Core.Path.{_≡_};
-ghost use mathlib.Core.List.{[], _∷_};
-ghost use Prim.Native.Nat.{_<_, _≤_};
+ghost use Prim.Native.Nat.{_<_};
 ghost use Rattle.rules.specs.Limits.{letters};
-ghost use Rattle.text.specs.Render.{mostPrinted, letterByte, opByte, digits};
-ghost use Rattle.text.specs.Told.{Backward, NumberReady, TreeReady, TreeWritten};
+ghost use Rattle.text.specs.Render.{letterByte, opByte};
+ghost use Rattle.text.specs.Helpers.{TreeReady, TreeWritten};
 
 // The bytes of the longest text that a body has.
 pub(crate) const MOST_PRINTED: usize = 807;
@@ -20,36 +19,36 @@ pub(crate) struct Begin {
 
 // Writes the pattern whose last entry is the one before entry `end`, so that its text ends before `at`: both are gone through backwards.
 pub(crate) fn write_tree(body: &[u8], end: usize, text: &mut [u8; MOST_PRINTED], at: usize) -> Begin
-    requires { ⌜ TreeReady (now body) end at ⌝ }
+    requires { ⌜ TreeReady (now body) end ⌝ }
     ensures { λ r. ⌜ TreeWritten (now (body .entry)) end (now (text .entry)) (now (text .exit)) at (r .entry) (r .byte) ⌝ }
 {
     let last = end - 1;
     let entry = body::entry_at(body, last);
     match entry {
         Entry::Letter(n) => {
-            let byte = write_byte(text, at, letter_byte(n));
+            let byte = decimal::write_byte(text, at, letter_byte(n));
             Begin {
                 entry: last,
                 byte: byte,
             }
         }
         Entry::Pair(op) => {
-            let shut = write_byte(text, at, b')');
+            let shut = decimal::write_byte(text, at, b')');
             let right = write_tree(body, last, text, shut);
-            let middle = write_byte(text, right.byte, op_byte(op));
+            let middle = decimal::write_byte(text, right.byte, op_byte(op));
             let left = write_tree(body, right.entry, text, middle);
-            let open = write_byte(text, left.byte, b'(');
+            let open = decimal::write_byte(text, left.byte, b'(');
             Begin {
                 entry: left.entry,
                 byte: open,
             }
         }
         Entry::Within(n) => {
-            let shut = write_byte(text, at, b')');
-            let number = write_number(text, shut, n);
-            let middle = write_byte(text, number, b'@');
+            let shut = decimal::write_byte(text, at, b')');
+            let number = decimal::write_number(text, shut, n);
+            let middle = decimal::write_byte(text, number, b'@');
             let left = write_tree(body, last, text, middle);
-            let open = write_byte(text, left.byte, b'(');
+            let open = decimal::write_byte(text, left.byte, b'(');
             Begin {
                 entry: left.entry,
                 byte: open,
@@ -61,30 +60,6 @@ pub(crate) fn write_tree(body: &[u8], end: usize, text: &mut [u8; MOST_PRINTED],
             byte: at,
         },
     }
-}
-
-// Writes a number in decimal, so that it ends before `at`; answers where it begins.
-fn write_number(text: &mut [u8; MOST_PRINTED], at: usize, n: u64) -> usize
-    requires { ⌜ NumberReady n at ⌝ }
-    ensures { λ r. ⌜ Backward (now (text .entry)) (now (text .exit)) at r (digits n) ⌝ }
-{
-    let mut left = n;
-    let mut from = at;
-    while left > 9 {
-        from = write_byte(text, from, (left % 10) as u8 + b'0');
-        left = left / 10;
-    }
-    write_byte(text, from, left as u8 + b'0')
-}
-
-// Writes a byte before `at`; answers its place.
-fn write_byte(text: &mut [u8; MOST_PRINTED], at: usize, byte: u8) -> usize
-    requires { ⌜ (0 < at) × (at ≤ mostPrinted) ⌝ }
-    ensures { λ r. ⌜ Backward (now (text .entry)) (now (text .exit)) at r (byte ∷ []) ⌝ }
-{
-    let place = at - 1;
-    text[place] = byte;
-    place
 }
 
 // The letter of an event type.

@@ -10,7 +10,7 @@ ghost use lib.ListN.{length};
 ghost use Rattle.rules.specs.Limits.{argumentBytes};
 ghost use Rattle.body.specs.Bytes.{bytesOf};
 ghost use Rattle.text.specs.Machine.{signOf, signNumber};
-ghost use Rattle.text.specs.Told.{DecimalAt, Written, ExpressionAt, TailAt};
+ghost use Rattle.text.specs.Helpers.{DecimalAt, Written, ExpressionAt, TailAt};
 
 // The number of event types, as `letter` counts them.
 pub(crate) const LETTERS: u8 = 32;
@@ -26,7 +26,7 @@ pub(crate) enum Reach {
 
 // Where a number ends and what it is, or the place where none could go on.
 enum Decimal {
-    Value(usize, u32),
+    Value(usize, u64),
     Bad(usize),
 }
 
@@ -46,7 +46,7 @@ pub(crate) fn expression(
     let byte = text[at];
     let kind = crate::letter(byte);
     if kind < LETTERS {
-        put(body, entries, 0, kind as u32);
+        put(body, entries, 0, kind as u64);
         return Reach::To(at + 1, entries + 1);
     }
     if byte != b'(' {
@@ -106,7 +106,7 @@ fn tail(text: &[u8], at: usize, body: &mut [u8; MOST_BODY], entries: usize) -> R
     }
 }
 
-// The number that starts at `at`, as far as it goes.
+// The number that starts at `at`.
 fn read_number(text: &[u8], at: usize) -> Decimal
     requires { ⌜ at ≤ length (now text) ⌝ }
     ensures { λ r. ⌜ DecimalAt (now (text .entry)) at r ⌝ }
@@ -126,7 +126,7 @@ fn read_number(text: &[u8], at: usize) -> Decimal
     while end < text.len() {
         let e = crate::digit(text[end]);
         if e > 9 {
-            return Decimal::Value(end, value as u32);
+            return Decimal::Value(end, value);
         }
         let more = value * 10 + (e as u64);
         if more > LAST_TICK {
@@ -135,7 +135,7 @@ fn read_number(text: &[u8], at: usize) -> Decimal
         value = more;
         end += 1;
     }
-    Decimal::Value(end, value as u32)
+    Decimal::Value(end, value)
 }
 
 // The op number of an operator or of `@`, 0 for any other byte.
@@ -158,7 +158,7 @@ fn sign(byte: u8) -> u8
 }
 
 // Writes entry number `n`, its argument low byte first, where there is room for 63; any further one is only counted.
-fn put(body: &mut [u8; MOST_BODY], n: usize, op: u8, argument: u32)
+fn put(body: &mut [u8; MOST_BODY], n: usize, op: u8, argument: u64)
     ensures { λ _. ⌜ Written (now (body .entry)) (now (body .exit)) n (op ∷ bytesOf argumentBytes argument) ⌝ }
 {
     if n < MOST_ENTRIES {

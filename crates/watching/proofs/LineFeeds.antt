@@ -9,8 +9,9 @@ use lib.ListN.{length, getD, take, drop, length-drop}
 use lib.Seq.{split-at, getD-drop, length-take-le}
 use borrow.Author.Tests.{ne-eqb, eqb-true}
 use Rattle.rules.specs.Bits.{bit}
-use Rattle.text.specs.Render.{letterByte, digitsIn}
-use Rattle.line.specs.Lines.{decimal, letterIf, lettersFrom, lettersOf}
+use Rattle.decimal.specs.Decimal.{digitsIn, decimal}
+use Rattle.text.specs.Render.{letterByte}
+use Rattle.line.specs.Lines.{letterIf, lettersFrom, lettersOf}
 use Rattle.line.specs.Answer.{IsTick}
 use Rattle.watching.specs.Progress.{lineLength}
 

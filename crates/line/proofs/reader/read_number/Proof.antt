@@ -3,12 +3,12 @@ use borrow.Author.Needs.{needs}
 use native.Mathlib.Omega.{arith}
 use Prim.Native.Nat.{_-_}
 use lib.ListN.{length}
-use Rattle.line.proofs.Readings.{Going, front-empty, front-bad, value-zero, going-first, value-end, value-other, going-more}
+use Rattle.line.proofs.Readings.{DigitsRead, front-empty, front-bad, value-zero, digits-first, value-end, value-other, digits-more}
 use Rattle.line.proofs.reader.read_number.Statement.{statement}
 use Rattle.line.proofs.reader.read_number.Tie as tie
 
 abbrev Inv-loop : tie.InvT-loop
-Inv-loop line first value₀ end₀ value end = Going line end value
+Inv-loop line first value₀ end₀ value end = DigitsRead line end value
 
 abbrev μ-loop : tie.MeasureT-loop
 μ-loop line first value₀ end₀ value end = length line - end
@@ -32,7 +32,7 @@ cast-value : tie.Need-cast-value Inv-loop μ-loop
 cast-value c = search needs
 
 loop-holds : tie.Need-loop-holds Inv-loop μ-loop
-loop-holds c = going-first _ (omega arith) _ (c .before .before .digit .ensures) (omega arith) (omega arith)
+loop-holds c = digits-first _ (omega arith) _ (c .before .before .digit .ensures) (omega arith) (omega arith)
 
 shared-slice-read-digit-2 : tie.Need-shared-slice-read-digit-2 Inv-loop μ-loop
 shared-slice-read-digit-2 c = search needs
@@ -60,7 +60,7 @@ loop-less c = search needs
 loop-again : tie.Need-loop-again Inv-loop μ-loop
 loop-again c =
     let d = c .before .before in
-    going-more _ (d .before .before .before .loop .inv) (omega arith) _ (d .digit2 .ensures) _ (omega arith) (c .grown .ensures)
+    digits-more _ (d .before .before .before .loop .inv) (omega arith) _ (d .digit2 .ensures) _ (omega arith) (c .grown .ensures)
 
 capped-requires-2 : tie.Need-capped-requires-2 Inv-loop μ-loop
 capped-requires-2 c κs = search needs

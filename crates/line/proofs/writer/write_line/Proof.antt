@@ -1,98 +1,92 @@
--- `line::writer::write_line` meets its contract: the parts written backwards make the line, and each has its room. Assumes nothing.
+-- `line::writer::write_line` meets its contract: the parts written backwards make the line, and there is room for it. Assumes nothing.
 use native.Mathlib.Omega.{arith}
 use mathlib.Core.Path.{refl}
 use Prim.Native.Nat.{_≤_}
 use lib.ListN.{length, replicate}
 use denote.Ref.{now}
-use Rattle.line.specs.Lines.{mostDigits, mostTally, decimal, numbersLine}
+use Rattle.decimal.specs.Backward.{Backward}
+use Rattle.decimal.proofs.Backwards.{before-back}
+use Rattle.line.specs.Lines.{mostTally, numbersLine}
 use Rattle.line.specs.Answer.RefusedWriting.{room}
-use Rattle.line.specs.Told.{Backward}
-use Rattle.line.proofs.Decimals.{decimal-fits}
-use Rattle.line.proofs.Backwards.{before-back}
-use Rattle.line.proofs.Writings.{made-length, no-room, all-written}
+use Rattle.line.proofs.Writings.{line-length, made-length, no-room, all-written}
 use borrow.Author.Needs.{needs}
 use Rattle.line.proofs.writer.write_line.Statement.{statement}
 use Rattle.line.proofs.writer.write_line.Tie as tie
 
 -- where the function begins
-abbrev start-of : tie.After-write-word → tie.Start
-start-of c = c .before .before .before .before .before .before .before .before .before
+abbrev start-of : tie.After-write-word2 → tie.Start
+start-of c =
+    let second = c .before .before .before .before .before .before .before .before .before in
+    second .before .before .before .before .before .before .before .before
 
--- the digits of the two numbers
-digits-a : (c : tie.Start) → length (decimal (c .args .a)) ≤ mostDigits
-digits-a c = decimal-fits _ (c .fits .a .fits)
-
-digits-b : (c : tie.Start) → length (decimal (c .args .b)) ≤ mostDigits
-digits-b c = decimal-fits _ (c .fits .b .fits)
+-- there is room for the line
+fits : (c : tie.Start) → let a = c .args in length (numbersLine (now (a .one)) (a .a) (now (a .two)) (a .b)) ≤ mostTally
+fits c =
+    let a = c .args in
+    omega (arith, line-length (now (a .one)) (now (a .two)) (a .a) (a .b) (c .fits .a .fits) (c .fits .b .fits), c .pre)
 
 -- the whole line, part by part
-line-is : (c : tie.After-write-word2) → let a = start-of (c .before .before .before .before) .args in
+line-is : (c : tie.After-write-word2) → let a = start-of c .args in
     Backward (replicate mostTally 0) (c .write-word2 .last .0) mostTally (c .write-word2 .result)
     (numbersLine (now (a .one)) (a .a) (now (a .two)) (a .b))
 line-is c =
-    let first = c .before .before in
-    let middle = first .before .before in
-    let second = middle .before .before in
-    before-back (before-back (before-back (before-back (second .before .before .write-byte .ensures) (second .write-number .ensures))
+    let first = c .before .before .before in
+    let middle = first .before .before .before in
+    let second = middle .before .before .before in
+    before-back (before-back (before-back (before-back (second .before .before .before .write-byte .ensures) (second .write-number .ensures))
     (middle .write-word .ensures)) (first .write-number2 .ensures)) (c .write-word2 .ensures)
+
+slice-aggregate-write-byte : tie.Need-slice-aggregate-write-byte
+slice-aggregate-write-byte c = search needs
 
 write-byte-requires : tie.Need-write-byte-requires
 write-byte-requires c κs = search needs
 
+slice-aggregate-write-number : tie.Need-slice-aggregate-write-number
+slice-aggregate-write-number c = search needs
+
 write-number-requires : tie.Need-write-number-requires
 write-number-requires c κs = search needs
 
+slice-aggregate-write-word : tie.Need-slice-aggregate-write-word
+slice-aggregate-write-word c = search needs
+
 write-word-requires : tie.Need-write-word-requires
-write-word-requires c κs =
-    let second = c .before in
-    let s = second .before .before .before .before .before .before .before in
-    omega (arith, digits-b s, s .pre, second .write-number .ensures .room, second .before .before .write-byte .ensures .room)
+write-word-requires c κs = search needs
+
+slice-aggregate-write-number-2 : tie.Need-slice-aggregate-write-number-2
+slice-aggregate-write-number-2 c = search needs
 
 write-number-requires-2 : tie.Need-write-number-requires-2
-write-number-requires-2 c κs =
-    let middle = c .before in
-    let second = middle .before .before in
-    let s = start-of middle in
-    omega (
-      arith,
-      digits-b s,
-      s .pre,
-      middle .write-word .ensures .room,
-      second .write-number .ensures .room,
-      second .before .before .write-byte .ensures .room,
-    )
+write-number-requires-2 c κs = search needs
+
+slice-aggregate-write-word-2 : tie.Need-slice-aggregate-write-word-2
+slice-aggregate-write-word-2 c = search needs
 
 write-word-requires-2 : tie.Need-write-word-requires-2
-write-word-requires-2 c κs =
-    let first = c .before in
-    let middle = first .before .before in
-    let second = middle .before .before in
-    let s = start-of middle in
-    omega (
-      arith,
-      digits-a s,
-      digits-b s,
-      s .pre,
-      first .write-number2 .ensures .room,
-      middle .write-word .ensures .room,
-      second .write-number .ensures .room,
-      second .before .before .write-byte .ensures .room,
-    )
+write-word-requires-2 c κs = search needs
 
 sub-need : tie.Need-sub-need
-sub-need c = search needs
+sub-need c = omega (arith, line-is (c .before) .begins)
 
 returns : tie.Need-returns
-returns c = (room (no-room (line-is (c .before)) _ (omega arith)), refl)
+returns c =
+    let w = c .before .before in
+    (room (no-room (fits (start-of w)) (line-is w) _ (omega arith)), refl)
 
 sub-copy : tie.Need-sub-copy
-sub-copy c = search needs
+sub-copy c = omega (arith, made-length (fits (start-of (c .before .before))) (line-is (c .before .before)), line-is (c .before .before) .begins)
 
 part-copy-start : tie.Need-part-copy-start
-part-copy-start c = search needs
+part-copy-start c =
+    let w = c .before .before .before in
+    omega (arith, line-is w .begins)
 
 part-copy-end : tie.Need-part-copy-end
-part-copy-end c = let m = made-length (line-is (c .before .before)) in omega arith
+part-copy-end c =
+    let w = c .before .before .before in
+    let m = made-length (fits (start-of w)) (line-is w) in
+    omega arith
 
 copy-requires : tie.Need-copy-requires
 copy-requires c κs = search needs
@@ -101,16 +95,24 @@ same-length : tie.Need-same-length
 same-length c = search needs
 
 returns-2 : tie.Need-returns-2
-returns-2 c = all-written (line-is (c .before .before .before .before .before .before .before)) _ _ _ (omega arith) refl (c .before .before .copy .ensures .1)
+returns-2 c =
+    let copy = c .before .before in
+    let w = copy .before .before .before .before .before .before in
+    all-written (fits (start-of w)) (line-is w) _ _ _ (omega arith) refl (copy .copy .ensures .1)
 
 pub write-line-spec : {M : Type 1} → statement M
 write-line-spec =
     tie.close
     (tie.spec
+    slice-aggregate-write-byte
     write-byte-requires
+    slice-aggregate-write-number
     write-number-requires
+    slice-aggregate-write-word
     write-word-requires
+    slice-aggregate-write-number-2
     write-number-requires-2
+    slice-aggregate-write-word-2
     write-word-requires-2
     sub-need
     returns

@@ -1,7 +1,7 @@
 -- `line::writer::write_word` meets its contract. The invariant: the bytes from `left` on are written. Assumes nothing.
-use borrow.Author.Needs.{needs}
 use native.Mathlib.Omega.{arith}
 use Rattle.line.proofs.Backwards.{WordLeft, word-start, word-more, word-done}
+use borrow.Author.Needs.{needs}
 use Rattle.line.proofs.writer.write_word.Statement.{statement}
 use Rattle.line.proofs.writer.write_word.Tie as tie
 
@@ -12,7 +12,7 @@ abbrev μ-loop : tie.MeasureT-loop
 μ-loop made₀ at word left₀ from₀ made left from = left
 
 loop-holds : tie.Need-loop-holds Inv-loop μ-loop
-loop-holds c = word-start _ _ _ (c .before .pre)
+loop-holds c = word-start _ _ _
 
 sub-left : tie.Need-sub-left Inv-loop μ-loop
 sub-left c = search needs
@@ -27,7 +27,12 @@ loop-less : tie.Need-loop-less Inv-loop μ-loop
 loop-less c = search needs
 
 loop-again : tie.Need-loop-again Inv-loop μ-loop
-loop-again c = word-more (c .before .before .before .before .loop .inv) _ _ (omega arith) (c .write-byte .ensures)
+loop-again c =
+    let w = c .before .before in
+    word-more (w .before .before .before .before .loop .inv) _ _ (omega arith) (w .write-byte .ensures)
+
+same-length : tie.Need-same-length Inv-loop μ-loop
+same-length c = c .before .loop .inv .text .long
 
 returns : tie.Need-returns Inv-loop μ-loop
 returns c = word-done (c .before .loop .inv) (omega arith)
@@ -44,4 +49,5 @@ write-word-spec =
     write-byte-requires
     loop-less
     loop-again
+    same-length
     returns)

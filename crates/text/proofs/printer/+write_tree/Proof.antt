@@ -9,17 +9,16 @@ use denote.Ref.{now}
 use Rattle.rules.specs.Limits.{argumentBytes}
 use Rattle.body.specs.Entry.{entryAt}
 use Rattle.body.specs.declared.Entry.the-variants.{Letter, Pair, Within}
-use Rattle.text.proofs.Trees.{some-entry, some-room, not-wrong, letter-ready, letter-written}
-use Rattle.text.proofs.Trees.{right-ready, sign-room, left-falls, left-ready, open-room, pair-written}
-use Rattle.text.proofs.Trees.{number-ready, cap-room, limited-ready, bracket-room, within-written}
+use Rattle.text.proofs.Trees.{some-entry, not-wrong, letter-ready, letter-written}
+use Rattle.text.proofs.Trees.{right-ready, left-falls, left-ready, pair-written, limited-ready, within-written}
 use Rattle.text.proofs.printer.write_tree.Reads as write-tree
 use Rattle.text.proofs.printer.write_tree.Kinds as kinds
 use Rattle.text.proofs.printer.+write_tree.Lts-write_tree as lts
 use Rattle.body.proofs.entry_at.Reads as entry-at-reads
 use Rattle.text.proofs.printer.letter_byte.Reads as letter-byte-reads
 use Rattle.text.proofs.printer.op_byte.Reads as op-byte-reads
-use Rattle.text.proofs.printer.write_byte.Reads as write-byte-reads
-use Rattle.text.proofs.printer.write_number.Reads as write-number-reads
+use Rattle.decimal.proofs.write_byte.Reads as write-byte-reads
+use Rattle.decimal.proofs.write_number.Reads as write-number-reads
 use Rattle.text.proofs.printer.+write_tree.{statement}
 use Rattle.text.proofs.printer.+write_tree.Tie.{close}
 
@@ -63,7 +62,7 @@ within-is : (t : ℕ) (c : lts.After-entry3 (calls t) (at-tree t) write-tree.Pos
 within-is t c = sym (c .entry3 .given .1) ∙ c .before .before .entry-at .ensures
 
 sub-last : (t : ℕ) → lts.Need-sub-last (calls t) (at-tree t) write-tree.Post
-sub-last t c = some-entry _ _ _ (c .before .pre .1)
+sub-last t c = some-entry _ _ (c .before .pre .1)
 
 entry-at-requires : (t : ℕ) → lts.Need-entry-at-requires (calls t) (at-tree t) write-tree.Post
 entry-at-requires t c κs = search needs
@@ -74,36 +73,31 @@ enum-known-entry t c = search needs
 letter-byte-requires : (t : ℕ) → lts.Need-letter-byte-requires (calls t) (at-tree t) write-tree.Post
 letter-byte-requires t c κs =
     let e = c .before .before in
-    letter-ready _ _ _ _ (letter-is t e) (e .before .before .before .before .pre .1)
+    letter-ready _ _ _ (letter-is t e) (e .before .before .before .before .pre .1)
 
 write-byte-requires : (t : ℕ) → lts.Need-write-byte-requires (calls t) (at-tree t) write-tree.Post
-write-byte-requires t c κs = some-room _ _ _ (c .before .before .before .before .before .before .before .pre .1)
+write-byte-requires t c κs = search needs
 
 enum-known-entry-2 : (t : ℕ) → lts.Need-enum-known-entry-2 (calls t) (at-tree t) write-tree.Post
 enum-known-entry-2 t c = search needs
 
 write-byte-requires-2 : (t : ℕ) → lts.Need-write-byte-requires-2 (calls t) (at-tree t) write-tree.Post
-write-byte-requires-2 t c κs = some-room _ _ _ (c .before .before .before .before .before .before .pre .1)
+write-byte-requires-2 t c κs = search needs
 
 write-tree-requires : (t : ℕ) → lts.Need-write-tree-requires (calls t) (at-tree t) write-tree.Post
 write-tree-requires t c κs =
     let u = c .before in
     let e = u .before .before .before in
     let r = e .before .before .before .before .pre in (
-      omega (arith, some-entry _ _ _ (r .1)),
-      right-ready _ _ _ _ (pair-is t e) (r .1) _ (u .write-byte2 .ensures .room),
+      omega (arith, some-entry _ _ (r .1)),
+      right-ready _ _ _ (pair-is t e) (r .1),
     )
 
 op-byte-requires : (t : ℕ) → lts.Need-op-byte-requires (calls t) (at-tree t) write-tree.Post
 op-byte-requires t c κs = search needs
 
 write-byte-requires-3 : (t : ℕ) → lts.Need-write-byte-requires-3 (calls t) (at-tree t) write-tree.Post
-write-byte-requires-3 t c κs =
-    let w = c .before .before in
-    let u = w .before .before in
-    let e = u .before .before .before in
-    let r = e .before .before .before .before .pre in
-    sign-room _ _ _ _ (pair-is t e) (r .1) _ _ _ _ _ (u .write-byte2 .ensures .room) (w .write-tree .ensures)
+write-byte-requires-3 t c κs = search needs
 
 write-tree-requires-2 : (t : ℕ) → lts.Need-write-tree-requires-2 (calls t) (at-tree t) write-tree.Post
 write-tree-requires-2 t c κs =
@@ -111,40 +105,24 @@ write-tree-requires-2 t c κs =
     let u = w .before .before in
     let e = u .before .before .before in
     let r = e .before .before .before .before .pre in (
-      omega (arith, left-falls _ _ _ _ (pair-is t e) (r .1) _ _ _ _ _ (u .write-byte2 .ensures .room) (w .write-tree .ensures)),
-      left-ready _ _ _ _ (pair-is t e) (r .1) _ _ _ _ _ (u .write-byte2 .ensures .room) (w .write-tree .ensures)
-          _ (c .before .write-byte3 .ensures .room),
+      omega (arith, left-falls _ _ _ (pair-is t e) (r .1) _ _ _ _ _ (w .write-tree .ensures)),
+      left-ready _ _ _ (pair-is t e) (r .1) _ _ _ _ _ (w .write-tree .ensures),
     )
 
 write-byte-requires-4 : (t : ℕ) → lts.Need-write-byte-requires-4 (calls t) (at-tree t) write-tree.Post
-write-byte-requires-4 t c κs =
-    let w = c .before .before .before .before .before .before in
-    let u = w .before .before in
-    let e = u .before .before .before in
-    let r = e .before .before .before .before .pre in
-    open-room _ _ _ _ (pair-is t e) (r .1) _ _ _ _ _ (u .write-byte2 .ensures .room) (w .write-tree .ensures)
-    _ _ _ _ _ (c .before .before .before .write-byte3 .ensures .room) (c .before .write-tree2 .ensures)
+write-byte-requires-4 t c κs = search needs
 
 enum-known-entry-3 : (t : ℕ) → lts.Need-enum-known-entry-3 (calls t) (at-tree t) write-tree.Post
 enum-known-entry-3 t c = search needs
 
 write-byte-requires-5 : (t : ℕ) → lts.Need-write-byte-requires-5 (calls t) (at-tree t) write-tree.Post
-write-byte-requires-5 t c κs = some-room _ _ _ (c .before .before .before .before .before .before .pre .1)
+write-byte-requires-5 t c κs = search needs
 
 write-number-requires : (t : ℕ) → lts.Need-write-number-requires (calls t) (at-tree t) write-tree.Post
-write-number-requires t c κs =
-    let u = c .before in
-    let e = u .before .before .before in
-    let r = e .before .before .before .before .pre in
-    number-ready _ _ _ _ (within-is t e) (r .1) _ (u .write-byte5 .ensures .room)
+write-number-requires t c κs = search needs
 
 write-byte-requires-6 : (t : ℕ) → lts.Need-write-byte-requires-6 (calls t) (at-tree t) write-tree.Post
-write-byte-requires-6 t c κs =
-    let w = c .before in
-    let u = w .before .before in
-    let e = u .before .before .before in
-    let r = e .before .before .before .before .pre in
-    cap-room _ _ _ _ (within-is t e) (r .1) _ _ _ _ (u .write-byte5 .ensures .room) (w .write-number .ensures)
+write-byte-requires-6 t c κs = search needs
 
 write-tree-requires-3 : (t : ℕ) → lts.Need-write-tree-requires-3 (calls t) (at-tree t) write-tree.Post
 write-tree-requires-3 t c κs =
@@ -152,33 +130,26 @@ write-tree-requires-3 t c κs =
     let u = w .before .before in
     let e = u .before .before .before in
     let r = e .before .before .before .before .pre in (
-      omega (arith, some-entry _ _ _ (r .1)),
-      limited-ready _ _ _ _ (within-is t e) (r .1) _ _ _ _ (u .write-byte5 .ensures .room) (w .write-number .ensures)
-          _ (c .before .write-byte6 .ensures .room),
+      omega (arith, some-entry _ _ (r .1)),
+      limited-ready _ _ _ (within-is t e) (r .1),
     )
 
 write-byte-requires-7 : (t : ℕ) → lts.Need-write-byte-requires-7 (calls t) (at-tree t) write-tree.Post
-write-byte-requires-7 t c κs =
-    let w = c .before .before .before .before .before in
-    let u = w .before .before in
-    let e = u .before .before .before in
-    let r = e .before .before .before .before .pre in
-    bracket-room _ _ _ _ (within-is t e) (r .1) _ _ _ _ (u .write-byte5 .ensures .room) (w .write-number .ensures)
-    _ _ _ _ _ (c .before .before .before .write-byte6 .ensures .room) (c .before .write-tree3 .ensures)
+write-byte-requires-7 t c κs = search needs
 
 enum-told : (t : ℕ) → lts.Need-enum-told (calls t) (at-tree t) write-tree.Post
 enum-told t c = search needs
 
 returns : (t : ℕ) → lts.Need-returns (calls t) (at-tree t) write-tree.Post
 returns t c =
-    letter-written _ _ _ _ (letter-is t (c .before .before .before .before)) _ _ _ (rw (c .before .letter-byte .ensures) at (c .write-byte .ensures))
+    letter-written _ _ _ (letter-is t (c .before .before .before .before)) _ _ _ _ (rw (c .before .letter-byte .ensures) at (c .write-byte .ensures))
 
 returns-2 : (t : ℕ) → lts.Need-returns-2 (calls t) (at-tree t) write-tree.Post
 returns-2 t c =
     let w = c .before .before .before .before .before .before .before in
     let u = w .before .before in
     let m = c .before .before .before .before in
-    pair-written _ _ _ _ (pair-is t (u .before .before .before)) _ _ _ _ _ _ _ _ _ _ _ _ _
+    pair-written _ _ _ (pair-is t (u .before .before .before)) _ _ _ _ _ _ _ _ _ _ _ _ _ _
     (u .write-byte2 .ensures)
     (w .write-tree .ensures)
     (rw (m .before .op-byte .ensures) at (m .write-byte3 .ensures))
@@ -189,7 +160,7 @@ returns-3 : (t : ℕ) → lts.Need-returns-3 (calls t) (at-tree t) write-tree.Po
 returns-3 t c =
     let w = c .before .before .before .before .before .before in
     let u = w .before .before in
-    within-written _ _ _ _ (within-is t (u .before .before .before)) _ _ _ _ _ _ _ _ _ _ _ _
+    within-written _ _ _ (within-is t (u .before .before .before)) _ _ _ _ _ _ _ _ _ _ _ _ _
     (u .write-byte5 .ensures)
     (w .write-number .ensures)
     (c .before .before .before .before .write-byte6 .ensures)
@@ -198,7 +169,7 @@ returns-3 t c =
 
 returns-4 : (t : ℕ) → lts.Need-returns-4 (calls t) (at-tree t) write-tree.Post
 returns-4 t c =
-    absurd (not-wrong _ _ _ (sym (c .enum-told .given .1) ∙ c .before .before .entry-at .ensures) (c .before .before .before .before .pre .1))
+    absurd (not-wrong _ _ (sym (c .enum-told .given .1) ∙ c .before .before .entry-at .ensures) (c .before .before .before .before .pre .1))
 
 pub +write-tree-spec : {M : Type 1} → statement M
 +write-tree-spec = close μ λ t. lts.spec (calls t)

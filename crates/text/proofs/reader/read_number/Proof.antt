@@ -3,12 +3,12 @@ use borrow.Author.Needs.{needs}
 use native.Mathlib.Omega.{arith}
 use Prim.Native.Nat.{_-_}
 use lib.ListN.{length}
-use Rattle.text.proofs.Numbers.{Going, bad-end, bad-first, value-zero, going-first, value-other, value-end, bad-over, going-more}
+use Rattle.text.proofs.Numbers.{DigitsRead, bad-end, bad-first, value-zero, digits-first, value-other, value-end, bad-over, digits-more}
 use Rattle.text.proofs.reader.read_number.Statement.{statement}
 use Rattle.text.proofs.reader.read_number.Tie as tie
 
 abbrev Inv-loop : tie.InvT-loop
-Inv-loop text at d value₀ end₀ value end = Going text at end value
+Inv-loop text at d value₀ end₀ value end = DigitsRead text at end value
 
 abbrev μ-loop : tie.MeasureT-loop
 μ-loop text at d value₀ end₀ value end = length text - end
@@ -35,16 +35,13 @@ returns-3 : tie.Need-returns-3 Inv-loop μ-loop
 returns-3 c = value-zero _ _ (omega arith) (omega arith)
 
 loop-holds : tie.Need-loop-holds Inv-loop μ-loop
-loop-holds c = going-first _ _ _ (omega arith) (c .before .before .digit .ensures) (omega arith) (omega arith)
+loop-holds c = digits-first _ _ _ (omega arith) (c .before .before .digit .ensures) (omega arith) (omega arith)
 
 shared-slice-read-digit-2 : tie.Need-shared-slice-read-digit-2 Inv-loop μ-loop
 shared-slice-read-digit-2 c = search needs
 
 digit-requires-2 : tie.Need-digit-requires-2 Inv-loop μ-loop
 digit-requires-2 c κs = search needs
-
-cast-t16 : tie.Need-cast-t16 Inv-loop μ-loop
-cast-t16 c = search needs
 
 returns-4 : tie.Need-returns-4 Inv-loop μ-loop
 returns-4 c = value-other _ _ _ _ (c .before .before .before .before .loop .inv) (omega arith) (omega arith)
@@ -71,11 +68,8 @@ loop-less c = search needs
 
 loop-again : tie.Need-loop-again Inv-loop μ-loop
 loop-again c =
-    going-more _ _ _ _ (c .before .before .before .before .before .loop .inv)
+    digits-more _ _ _ _ (c .before .before .before .before .before .loop .inv)
     _ (omega arith) (c .before .before .digit2 .ensures) (omega arith) (omega arith)
-
-cast-t19 : tie.Need-cast-t19 Inv-loop μ-loop
-cast-t19 c = search needs
 
 returns-6 : tie.Need-returns-6 Inv-loop μ-loop
 returns-6 c = value-end _ _ _ _ (c .before .loop .inv) (omega arith)
@@ -96,7 +90,6 @@ read-number-spec =
     loop-holds
     shared-slice-read-digit-2
     digit-requires-2
-    cast-t16
     returns-4
     mul-more
     cast-more
@@ -105,5 +98,4 @@ read-number-spec =
     add-end-2
     loop-less
     loop-again
-    cast-t19
     returns-6)

@@ -12,7 +12,8 @@ use Rattle.body.specs.declared.Entry.{Entry}
 use Rattle.body.specs.declared.Entry.the-variants.{Pair, Within}
 use Rattle.body.specs.Entry.{entryBytes, entriesBy, entryAt}
 use Rattle.body.specs.Postfix.{postfix, encode}
-use Rattle.text.specs.Render.{numbers, mostPrinted, digits, render}
+use Rattle.decimal.specs.Backward.{Backward}
+use Rattle.text.specs.Render.{numbers, render}
 use Rattle.text.specs.Machine.{Frame, first, run, shut, want, have, limit, stopped}
 use Rattle.text.specs.declared.reader.Reach.{Reach}
 use Rattle.text.specs.declared.reader.Reach.the-variants.{To, Stuck}
@@ -98,29 +99,16 @@ abbrev pub TailAt : List ℕ → ℕ → ℕ → List ℕ → List ℕ → Reach
 TailAt s at n d d′ (To end m) = IsTail s at n d d′ end m
 TailAt s at n d d′ (Stuck place) = NoTail s at place
 
--- bytes are written backwards from `end` to `at`: from there on d′ holds them, and then what d held from `end` on
-pub record Backward (d d′ : List ℕ) (end at : ℕ) (bytes : List ℕ) : Type 0 where
-  pub room : at + length bytes ≡ end
-  pub written : length d ≡ mostPrinted → (length d′ ≡ mostPrinted) × (drop at d′ ≡ bytes ++ drop end d)
-
--- a number that has room for its digits before `end`
-pub record NumberReady (n end : ℕ) : Type 0 where
-  pub small : n < numbers
-  pub room : length (digits n) ≤ end
-  pub inside : end ≤ mostPrinted
-
 -- the first k entries of b are others and then those of e
 abbrev pub Ends : List ℕ → ℕ → List Entry → Pattern → Type 0
 Ends b k others e = entriesBy (entryAt argumentBytes b) 0 k ≡ others ++ postfix e
 
--- they end with those of a proper tree, whose text has room before `end`
-pub record TreeReady (b : List ℕ) (k end : ℕ) : Type 0 where
+-- they end with those of a proper tree
+pub record TreeReady (b : List ℕ) (k : ℕ) : Type 0 where
   pub tree : Pattern
   pub others : List Entry
   pub ends : Ends b k others tree
   pub proper : Proper numbers tree
-  pub room : length (render tree) ≤ end
-  pub inside : end ≤ mostPrinted
 
 -- that tree is written, from its first entry and its first byte on
 pub record IsTree (d d′ : List ℕ) (end : ℕ) (e : Pattern) (others : List Entry) (entry byte : ℕ) : Type 0 where

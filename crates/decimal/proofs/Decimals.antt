@@ -1,14 +1,17 @@
 -- Numbers in decimal: a digit, the last digit after those of the tenth, and how many digits there are. Assumes nothing.
 use mathlib.Core.Path.{_≡_, sym, ap, ap₂, _∙_}
-use Prim.Native.Nat.{ℕ, zero, suc, _+_, _*_, _/_, _%_, _^_, _<_, _≤_}
+use Prim.Native.Nat.{ℕ, zero, suc, _+_, _*_, _/_, _%_, _<_, _≤_}
 use native.Mathlib.Omega.{arith}
 use mathlib.Core.List.{List, [], _∷_, _++_}
 use lib.ListN.{length, length-append}
 use borrow.Author.Tests.{lt-ltb, le-ltb}
-use Rattle.text.specs.Render.{digitsIn}
-use Rattle.text.proofs.Branches.{either-way}
-use Rattle.text.proofs.Bytes.{tens}
-use Rattle.line.specs.Lines.{mostDigits, decimal}
+use Rattle.decimal.specs.Decimal.{digitsIn, decimal}
+use Rattle.decimal.proofs.Branches.{either-way}
+
+-- 10 ^ k
+abbrev pub tens : ℕ → ℕ
+tens zero = 1
+tens (suc k) = tens k * 10
 
 digits-one : (k n : ℕ) → n < 10 → digitsIn (suc k) n ≡ (n + 48) ∷ []
 unfolding digitsIn
@@ -61,6 +64,3 @@ decimal-length zero n h = rw (decimal-one n (omega arith)) (omega arith)
 decimal-length (suc k) n h =
     either-way n 10 (λ l. rw (decimal-one n l) (omega arith))
     (λ l. rw (decimal-last n l) (simp length-append (omega (arith, decimal-length k (n / 10) (omega arith)))))
-
-pub decimal-fits : (n : ℕ) → n < 2 ^ 64 → length (decimal n) ≤ mostDigits
-decimal-fits n h = decimal-length 19 n (omega arith)
