@@ -1,2 +1,2 @@
 pub mod Givens
-pub mod Ends
+pub mod Theorem

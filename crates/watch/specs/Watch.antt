@@ -1,14 +1,12 @@
 -- What the watch program's functions did with what was read, and what they handed to the writer. Assumes nothing: these are definitions.
 use Prim.Native.Nat.{ℕ, _≤_, min}
 use mathlib.Core.Path.{_≡_}
-use mathlib.Core.List.{List, _∷_, _++_}
+use mathlib.Core.List.{List}
 use lib.ListN.{length, take}
 use lib.IntN.{ℤ, pos, negsuc}
 use Rattle.watching.specs.declared.Chunking.the-variants.{Taken}
 use Rattle.watching.specs.declared.Finishing.the-variants.{Finished}
 use Rattle.watching.specs.Runs.{fresh}
-use Rattle.watching.specs.Whole.{linesOf, Prints}
-use Rattle.watching.specs.Claim.{Sound, Ruled}
 use Rattle.watching.specs.Chunk.{mostHeld, mostFinish, ChunkAnswers, FinishAnswers, Given}
 use Rattle.watch.specs.declared.Progress.{Progress}
 use Rattle.watch.specs.declared.Wrote.{Wrote}
@@ -61,18 +59,3 @@ pub record InputTaken (part part′ state state′ : List ℕ) (r : Progress) : 
 -- the input was ended, and what was written then was handed to the writer
 pub record InputEnded (p : Progress) (part state state′ out out′ : List ℕ) (w : Wrote) : Type 0 where
   pub answers : FinishAnswers (p .taken .run) (p .taken .held) part state state′ out out′ (Finished (w .bytes))
-
--- the output of an input that ended: what its lines print; and for a sound one, the windows that the rules ask for and their tally
-pub record Printed (state input output : List ℕ) : Type 0 where
-  pub prints : Prints state input output
-  pub sound : (p : List ℕ) (ls : List (List ℕ)) (x : Sound p ls) → linesOf input ≡ p ∷ ls → Ruled p ls x output
-
--- the output of the beginning of an input: however the input continues, it stands first in what that prints
-pub record Begun (state input output : List ℕ) : Type 0 where
-  pub begins : (later right : List ℕ) → Prints state (input ++ later) right → (rest : List ℕ) × (right ≡ output ++ rest)
-
--- what a run came to: the input taken, and the output, all that was handed to the writer, one after the other. Either the input ended, and at most
--- the last write failed; or a read or a write failed before that
-pub data Ran (state : List ℕ) (fault : ℕ) : Type 0 where
-  whole : (input output : List ℕ) → Printed state input output → Ran state fault
-  broken : (input output : List ℕ) → (fault ≡ 0 → ⊥) → Begun state input output → Ran state fault

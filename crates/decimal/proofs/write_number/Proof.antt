@@ -14,31 +14,10 @@ abbrev μ-loop : tie.MeasureT-loop
 loop-holds : tie.Need-loop-holds Inv-loop μ-loop
 loop-holds c = number-start _ _ _
 
-cast-write-byte : tie.Need-cast-write-byte Inv-loop μ-loop
-cast-write-byte c = search needs
-
-add-write-byte : tie.Need-add-write-byte Inv-loop μ-loop
-add-write-byte c = search needs
-
-write-byte-requires : tie.Need-write-byte-requires Inv-loop μ-loop
-write-byte-requires c κs = search needs
-
-loop-less : tie.Need-loop-less Inv-loop μ-loop
-loop-less c = search needs
-
 loop-again : tie.Need-loop-again Inv-loop μ-loop
 loop-again c =
     let w = c .before .before in
     number-more (w .before .before .before .loop .inv) _ _ (omega arith) (w .write-byte .ensures)
-
-cast-write-byte-2 : tie.Need-cast-write-byte-2 Inv-loop μ-loop
-cast-write-byte-2 c = search needs
-
-add-write-byte-2 : tie.Need-add-write-byte-2 Inv-loop μ-loop
-add-write-byte-2 c = search needs
-
-write-byte-requires-2 : tie.Need-write-byte-requires-2 Inv-loop μ-loop
-write-byte-requires-2 c κs = search needs
 
 same-length : tie.Need-same-length Inv-loop μ-loop
 same-length c =
@@ -57,13 +36,13 @@ write-number-spec =
     Inv-loop
     μ-loop
     loop-holds
-    cast-write-byte
-    add-write-byte
-    write-byte-requires
-    loop-less
+    (λ c. search needs)
+    (λ c. search needs)
+    (λ c κs. search needs)
+    (λ c. search needs)
     loop-again
-    cast-write-byte-2
-    add-write-byte-2
-    write-byte-requires-2
+    (λ c. search needs)
+    (λ c. search needs)
+    (λ c κs. search needs)
     same-length
     returns)

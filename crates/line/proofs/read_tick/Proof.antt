@@ -25,14 +25,8 @@ byte-follows c = let i = number-is (c .before .before) in omega arith
 returns : tie.Need-returns
 returns c = long (omega arith)
 
-read-number-requires : tie.Need-read-number-requires
-read-number-requires c κs = search needs
-
 enum-told : tie.Need-enum-told
 enum-told c = search needs
-
-enum-known-number : tie.Need-enum-known-number
-enum-known-number c = search needs
 
 returns-2 : tie.Need-returns-2
 returns-2 c = malformed (no-line _ (parsed-end _ (number-is (c .before .before)) (omega arith)))
@@ -80,9 +74,9 @@ read-tick-spec =
     tie.close
     (tie.spec
     returns
-    read-number-requires
+    (λ c κs. search needs)
     enum-told
-    enum-known-number
+    (λ c. search needs)
     returns-2
     shared-slice-read-if3
     returns-3

@@ -46,46 +46,10 @@ late c =
 loop-holds : tie.Need-loop-holds Inv-loop μ-loop
 loop-holds c = judging-start _ _ _ _ (c .before .before .pre)
 
-mul-extent : tie.Need-mul-extent Inv-loop μ-loop
-mul-extent c = search needs
-
-sub-extent : tie.Need-sub-extent Inv-loop μ-loop
-sub-extent c = search needs
-
-part-extent-start : tie.Need-part-extent-start Inv-loop μ-loop
-part-extent-start c = search needs
-
-part-extent-end : tie.Need-part-extent-end Inv-loop μ-loop
-part-extent-end c = search needs
-
-extent-requires : tie.Need-extent-requires Inv-loop μ-loop
-extent-requires c κs = search needs
-
-same-length : tie.Need-same-length Inv-loop μ-loop
-same-length c = search needs
-
 returns : tie.Need-returns Inv-loop μ-loop
 returns c =
     let k = c .before .before .before .before in
     judging-broken (k .loop .inv) (c .before .before .before .loop-test .taken) (omega (arith, words (c .before)))
-
-mul-next-tick : tie.Need-mul-next-tick Inv-loop μ-loop
-mul-next-tick c = search needs
-
-sub-next-tick : tie.Need-sub-next-tick Inv-loop μ-loop
-sub-next-tick c = search needs
-
-part-next-tick-start : tie.Need-part-next-tick-start Inv-loop μ-loop
-part-next-tick-start c = search needs
-
-part-next-tick-end : tie.Need-part-next-tick-end Inv-loop μ-loop
-part-next-tick-end c = search needs
-
-next-tick-requires : tie.Need-next-tick-requires Inv-loop μ-loop
-next-tick-requires c κs = search needs
-
-late-after-requires : tie.Need-late-after-requires Inv-loop μ-loop
-late-after-requires c κs = search needs
 
 add-at : tie.Need-add-at Inv-loop μ-loop
 add-at c =
@@ -97,18 +61,6 @@ add-at c =
       judging-within (j .before .loop .inv) (j .loop-test .taken) (j .before .before .before .before .pre .few) (some e),
     )
 
-add-i : tie.Need-add-i Inv-loop μ-loop
-add-i c = search needs
-
-mul-ends : tie.Need-mul-ends Inv-loop μ-loop
-mul-ends c = search needs
-
-slice-write-ends : tie.Need-slice-write-ends Inv-loop μ-loop
-slice-write-ends c = search needs
-
-loop-less : tie.Need-loop-less Inv-loop μ-loop
-loop-less c = search needs
-
 loop-again : tie.Need-loop-again Inv-loop μ-loop
 loop-again c =
     let e = c .before .before .before in
@@ -116,14 +68,8 @@ loop-again c =
     judging-more (j .before .loop .inv) (j .loop-test .taken) (j .before .before .before .before .pre .few) (some e)
     _ (ap (λ z. j .before .loop .at + z) (words (e .before))) (c .late-after .result) (late c)
 
-same-length-2 : tie.Need-same-length-2 Inv-loop μ-loop
-same-length-2 c = search needs
-
 returns-2 : tie.Need-returns-2 Inv-loop μ-loop
 returns-2 c = judging-late (c .before .before .loop .inv) (c .before .loop-test .left) (c .if2 .taken)
-
-same-length-3 : tie.Need-same-length-3 Inv-loop μ-loop
-same-length-3 c = search needs
 
 returns-3 : tie.Need-returns-3 Inv-loop μ-loop
 returns-3 c = judging-end (c .before .before .loop .inv) (c .before .loop-test .left) (c .if2 .left)
@@ -135,26 +81,26 @@ judge-spec =
     Inv-loop
     μ-loop
     loop-holds
-    mul-extent
-    sub-extent
-    part-extent-start
-    part-extent-end
-    extent-requires
-    same-length
+    (λ c. search needs)
+    (λ c. search needs)
+    (λ c. search needs)
+    (λ c. search needs)
+    (λ c κs. search needs)
+    (λ c. search needs)
     returns
-    mul-next-tick
-    sub-next-tick
-    part-next-tick-start
-    part-next-tick-end
-    next-tick-requires
-    late-after-requires
+    (λ c. search needs)
+    (λ c. search needs)
+    (λ c. search needs)
+    (λ c. search needs)
+    (λ c κs. search needs)
+    (λ c κs. search needs)
     add-at
-    add-i
-    mul-ends
-    slice-write-ends
-    loop-less
+    (λ c. search needs)
+    (λ c. search needs)
+    (λ c. search needs)
+    (λ c. search needs)
     loop-again
-    same-length-2
+    (λ c. search needs)
     returns-2
-    same-length-3
+    (λ c. search needs)
     returns-3)

@@ -7,12 +7,6 @@ use borrow.Author.Needs.{needs}
 use Rattle.set.proofs.open.Statement.{statement}
 use Rattle.set.proofs.open.Tie as tie
 
-check-file-requires : tie.Need-check-file-requires
-check-file-requires c κs = search needs
-
-enum-known-r : tie.Need-enum-known-r
-enum-known-r c = search needs
-
 enum-told : tie.Need-enum-told
 enum-told c = search needs
 
@@ -24,28 +18,19 @@ returns c =
     let r = c .before .room-summed .ensures in
     (short (r .patterns) (r .file) (omega (arith, r .room)) (ap Room (r .room)), refl)
 
-open-all-requires : tie.Need-open-all-requires
-open-all-requires c κs = search needs
-
 returns-2 : tie.Need-returns-2
 returns-2 c = (unsound (sym (c .before .before .before .check-file .ensures) ∙ c .before .r .given .1), refl)
-
-same-length : tie.Need-same-length
-same-length c = search needs
-
-returns-3 : tie.Need-returns-3
-returns-3 c = search needs
 
 pub open-spec : {M : Type 1} → statement M
 open-spec =
     tie.close
     (tie.spec
-    check-file-requires
-    enum-known-r
+    (λ c κs. search needs)
+    (λ c. search needs)
     enum-told
     room-summed-requires
     returns
-    open-all-requires
+    (λ c κs. search needs)
     returns-2
-    same-length
-    returns-3)
+    (λ c. search needs)
+    (λ c. search needs))

@@ -22,9 +22,6 @@ within c =
     let j = c .before in
     filling-within (j .before .loop .inv) (j .loop-test .taken) _ (c .room-at .result) (c .room-at .ensures) refl
 
-pattern-count-requires : tie.Need-pattern-count-requires Inv-loop μ-loop
-pattern-count-requires c κs = search needs
-
 loop-holds : tie.Need-loop-holds Inv-loop μ-loop
 loop-holds c = filling-start _ (c .pattern-count .ensures .0) (c .before .before .before .pre)
 
@@ -34,15 +31,6 @@ room-at-requires c κs = filling-has (c .before .loop .inv) (c .loop-test .taken
 add-to : tie.Need-add-to Inv-loop μ-loop
 add-to c = omega (arith, within c)
 
-mul-open-at : tie.Need-mul-open-at Inv-loop μ-loop
-mul-open-at c = search needs
-
-sub-open-at : tie.Need-sub-open-at Inv-loop μ-loop
-sub-open-at c = search needs
-
-part-open-at-start : tie.Need-part-open-at-start Inv-loop μ-loop
-part-open-at-start c = search needs
-
 part-open-at-end : tie.Need-part-open-at-end Inv-loop μ-loop
 part-open-at-end c = within c
 
@@ -51,12 +39,6 @@ open-at-requires c κs =
     let r = c .before in
     let j = r .before in
     filling-room (j .before .loop .inv) (j .loop-test .taken) _ (r .room-at .result) (r .room-at .ensures) refl
-
-add-i : tie.Need-add-i Inv-loop μ-loop
-add-i c = search needs
-
-loop-less : tie.Need-loop-less Inv-loop μ-loop
-loop-less c = search needs
 
 loop-again : tie.Need-loop-again Inv-loop μ-loop
 loop-again c =
@@ -78,17 +60,17 @@ open-all-spec =
     (tie.spec
     Inv-loop
     μ-loop
-    pattern-count-requires
+    (λ c κs. search needs)
     loop-holds
     room-at-requires
     add-to
-    mul-open-at
-    sub-open-at
-    part-open-at-start
+    (λ c. search needs)
+    (λ c. search needs)
+    (λ c. search needs)
     part-open-at-end
     open-at-requires
-    add-i
-    loop-less
+    (λ c. search needs)
+    (λ c. search needs)
     loop-again
     same-length
     returns)

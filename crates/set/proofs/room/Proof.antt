@@ -4,12 +4,6 @@ use borrow.Author.Needs.{needs}
 use Rattle.set.proofs.room.Statement.{statement}
 use Rattle.set.proofs.room.Tie as tie
 
-check-file-requires : tie.Need-check-file-requires
-check-file-requires c κs = search needs
-
-enum-known-r : tie.Need-enum-known-r
-enum-known-r c = search needs
-
 enum-told : tie.Need-enum-told
 enum-told c = search needs
 
@@ -19,10 +13,7 @@ room-summed-requires c κs = sym (c .before .before .check-file .ensures) ∙ c 
 returns : tie.Need-returns
 returns c = sym (c .before .before .before .check-file .ensures) ∙ c .before .r .given .1
 
-returns-2 : tie.Need-returns-2
-returns-2 c = search needs
-
 pub room-spec : {M : Type 1} → statement M
 room-spec =
     tie.close
-    (tie.spec check-file-requires enum-known-r enum-told room-summed-requires returns returns-2)
+    (tie.spec (λ c κs. search needs) (λ c. search needs) enum-told room-summed-requires returns (λ c. search needs))

@@ -7,14 +7,8 @@ use borrow.Author.Needs.{needs}
 use Rattle.set.proofs.room_at.Statement.{statement}
 use Rattle.set.proofs.room_at.Tie as tie
 
-body-at-requires : tie.Need-body-at-requires
-body-at-requires c κs = search needs
-
 enum-told : tie.Need-enum-told
 enum-told c = search needs
-
-enum-known-from : tie.Need-enum-known-from
-enum-known-from c = search needs
 
 add-room : tie.Need-add-room
 add-room c =
@@ -22,26 +16,11 @@ add-room c =
     let h = b .before .before .pre in
     omega (arith, part-within (h .1) (sym (b .body-at .ensures) ∙ c .before .from .given .1))
 
-sub-room : tie.Need-sub-room
-sub-room c = search needs
-
-part-room-start : tie.Need-part-room-start
-part-room-start c = search needs
-
 part-room-end : tie.Need-part-room-end
 part-room-end c =
     let b = c .before .before .before in
     let h = b .before .before .pre in
     part-within (h .1) (sym (b .body-at .ensures) ∙ c .before .from .given .1)
-
-room-requires : tie.Need-room-requires
-room-requires c κs = search needs
-
-enum-known-words : tie.Need-enum-known-words
-enum-known-words c = search needs
-
-enum-told-2 : tie.Need-enum-told-2
-enum-told-2 c = search needs
 
 returns : tie.Need-returns
 returns c =
@@ -66,16 +45,16 @@ pub room-at-spec : {M : Type 1} → statement M
 room-at-spec =
     tie.close
     (tie.spec
-    body-at-requires
+    (λ c κs. search needs)
     enum-told
-    enum-known-from
+    (λ c. search needs)
     add-room
-    sub-room
-    part-room-start
+    (λ c. search needs)
+    (λ c. search needs)
     part-room-end
-    room-requires
-    enum-known-words
-    enum-told-2
+    (λ c κs. search needs)
+    (λ c. search needs)
+    (λ c. search needs)
     returns
     returns-2
     returns-3)

@@ -13,9 +13,6 @@ Inv-loop file count words₀ i₀ words i = Summing file count words i
 abbrev μ-loop : tie.MeasureT-loop
 μ-loop file count words₀ i₀ words i = count - i
 
-pattern-count-requires : tie.Need-pattern-count-requires Inv-loop μ-loop
-pattern-count-requires c κs = search needs
-
 loop-holds : tie.Need-loop-holds Inv-loop μ-loop
 loop-holds c =
     let k = c .before in
@@ -31,12 +28,6 @@ add-words c =
     let x = j .before .loop .inv in
     omega (arith, summing-few x, summing-small x (j .loop-test .taken) (c .room-at .result) (c .room-at .ensures))
 
-add-i : tie.Need-add-i Inv-loop μ-loop
-add-i c = search needs
-
-loop-less : tie.Need-loop-less Inv-loop μ-loop
-loop-less c = search needs
-
 loop-again : tie.Need-loop-again Inv-loop μ-loop
 loop-again c =
     let j = c .before in
@@ -51,11 +42,11 @@ room-summed-spec =
     (tie.spec
     Inv-loop
     μ-loop
-    pattern-count-requires
+    (λ c κs. search needs)
     loop-holds
     room-at-requires
     add-words
-    add-i
-    loop-less
+    (λ c. search needs)
+    (λ c. search needs)
     loop-again
     returns)

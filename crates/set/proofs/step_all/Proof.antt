@@ -14,24 +14,6 @@ abbrev μ-loop : tie.MeasureT-loop
 loop-holds : tie.Need-loop-holds Inv-loop μ-loop
 loop-holds c = stepping-start _ (c .before .before .before .pre)
 
-mul-at : tie.Need-mul-at Inv-loop μ-loop
-mul-at c = search needs
-
-shared-slice-read-at : tie.Need-shared-slice-read-at Inv-loop μ-loop
-shared-slice-read-at c = search needs
-
-add-end : tie.Need-add-end Inv-loop μ-loop
-add-end c = search needs
-
-mul-end : tie.Need-mul-end Inv-loop μ-loop
-mul-end c = search needs
-
-shared-slice-read-end : tie.Need-shared-slice-read-end Inv-loop μ-loop
-shared-slice-read-end c = search needs
-
-mul-step : tie.Need-mul-step Inv-loop μ-loop
-mul-step c = search needs
-
 sub-step : tie.Need-sub-step Inv-loop μ-loop
 sub-step c =
     let j = c .before .before in
@@ -56,30 +38,12 @@ step-requires c κs =
     let r = j .before .before .before .before .before .pre in
     stepping-ready r (j .before .loop .inv) (j .loop-test .taken)
 
-mul-answers : tie.Need-mul-answers Inv-loop μ-loop
-mul-answers c = search needs
-
-slice-write-answers : tie.Need-slice-write-answers Inv-loop μ-loop
-slice-write-answers c = search needs
-
-add-k : tie.Need-add-k Inv-loop μ-loop
-add-k c = search needs
-
-loop-less : tie.Need-loop-less Inv-loop μ-loop
-loop-less c = search needs
-
 loop-again : tie.Need-loop-again Inv-loop μ-loop
 loop-again c =
     let p = c .before .before in
     let j = p .before .before .before .before in
     let r = j .before .before .before .before .before .pre in
     stepping-more r (j .before .loop .inv) (j .loop-test .taken) (p .step .last .0) (p .step .result) (p .step .ensures) (p .step .kept .0)
-
-same-length : tie.Need-same-length Inv-loop μ-loop
-same-length c = search needs
-
-same-length-2 : tie.Need-same-length-2 Inv-loop μ-loop
-same-length-2 c = search needs
 
 returns : tie.Need-returns Inv-loop μ-loop
 returns c = stepping-end (c .before .before .before .before .before .pre) (c .before .loop .inv) (c .loop-test .left)
@@ -91,21 +55,21 @@ step-all-spec =
     Inv-loop
     μ-loop
     loop-holds
-    mul-at
-    shared-slice-read-at
-    add-end
-    mul-end
-    shared-slice-read-end
-    mul-step
+    (λ c. search needs)
+    (λ c. search needs)
+    (λ c. search needs)
+    (λ c. search needs)
+    (λ c. search needs)
+    (λ c. search needs)
     sub-step
     part-step-start
     part-step-end
     step-requires
-    mul-answers
-    slice-write-answers
-    add-k
-    loop-less
+    (λ c. search needs)
+    (λ c. search needs)
+    (λ c. search needs)
+    (λ c. search needs)
     loop-again
-    same-length
-    same-length-2
+    (λ c. search needs)
+    (λ c. search needs)
     returns)

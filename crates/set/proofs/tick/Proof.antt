@@ -34,38 +34,17 @@ returns-3 c = (short (omega arith, omega arith) (omega arith) refl, refl, refl)
 returns-4 : tie.Need-returns-4
 returns-4 c = (over (omega arith, omega arith) (omega arith) (omega arith) refl, refl, refl)
 
-slice-aggregate-judge : tie.Need-slice-aggregate-judge
-slice-aggregate-judge c = search needs
-
-judge-requires : tie.Need-judge-requires
-judge-requires c κs = search needs
-
-enum-known-r : tie.Need-enum-known-r
-enum-known-r c = search needs
-
 enum-told : tie.Need-enum-told
 enum-told c = search needs
 
-slice-aggregate-step-all : tie.Need-slice-aggregate-step-all
-slice-aggregate-step-all c = search needs
-
 step-all-requires : tie.Need-step-all-requires
 step-all-requires c κs = ready (c .before .before .before)
-
-same-length : tie.Need-same-length
-same-length c = search needs
 
 returns-5 : tie.Need-returns-5
 returns-5 c =
     let j = c .before .before .before .before in
     let q = subst (Judged _ _ _ _) (c .before .r .given .1) (j .judge .ensures) in
     (fault (omega arith, omega arith) (omega arith) (omega arith) q, refl, refl)
-
-same-length-2 : tie.Need-same-length-2
-same-length-2 c = search needs
-
-same-length-3 : tie.Need-same-length-3
-same-length-3 c = search needs
 
 returns-6 : tie.Need-returns-6
 returns-6 c =
@@ -80,14 +59,14 @@ tick-spec =
     returns-2
     returns-3
     returns-4
-    slice-aggregate-judge
-    judge-requires
-    enum-known-r
+    (λ c. search needs)
+    (λ c κs. search needs)
+    (λ c. search needs)
     enum-told
-    slice-aggregate-step-all
+    (λ c. search needs)
     step-all-requires
-    same-length
+    (λ c. search needs)
     returns-5
-    same-length-2
-    same-length-3
+    (λ c. search needs)
+    (λ c. search needs)
     returns-6)

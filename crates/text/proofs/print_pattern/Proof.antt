@@ -19,12 +19,6 @@ sound-is c = sym (c .before .before .check-body .ensures) ∙ c .enum-told .give
 bytes-are : (c : tie.After-enum-told) → Bytes (now (c .before .before .before .before .before .args .body))
 bytes-are c = λ k. omega (arith, c .before .before .before .before .shared-slice-known .given k)
 
-check-body-requires : tie.Need-check-body-requires
-check-body-requires c κs = search needs
-
-enum-known-check : tie.Need-enum-known-check
-enum-known-check c = search needs
-
 enum-told : tie.Need-enum-told
 enum-told c = search needs
 
@@ -61,14 +55,8 @@ part-copy-end c =
     let m = made-length _ (bytes-are e) (sound-is e) (w .write-tree .ensures) in
     omega arith
 
-copy-requires : tie.Need-copy-requires
-copy-requires c κs = search needs
-
 returns-2 : tie.Need-returns-2
 returns-2 c = (unsound (record { unsound = sym (c .before .before .before .check-body .ensures) ∙ c .before .check .given .1 }), refl)
-
-same-length : tie.Need-same-length
-same-length c = search needs
 
 returns-3 : tie.Need-returns-3
 returns-3 c =
@@ -80,8 +68,8 @@ pub print-pattern-spec : {M : Type 1} → statement M
 print-pattern-spec =
     tie.close
     (tie.spec
-    check-body-requires
-    enum-known-check
+    (λ c κs. search needs)
+    (λ c. search needs)
     enum-told
     write-tree-requires
     sub-need
@@ -89,7 +77,7 @@ print-pattern-spec =
     sub-copy
     part-copy-start
     part-copy-end
-    copy-requires
+    (λ c κs. search needs)
     returns-2
-    same-length
+    (λ c. search needs)
     returns-3)

@@ -24,46 +24,22 @@ whole-is c = subst (ExpressionAt _ _ _ _ _) (c .whole2 .given .1) (c .before .be
 returns : tie.Need-returns
 returns c = (long (record { long = omega arith }), refl)
 
-expression-requires : tie.Need-expression-requires
-expression-requires c κs = search needs
-
-enum-known-whole : tie.Need-enum-known-whole
-enum-known-whole c = search needs
-
-enum-known-whole-2 : tie.Need-enum-known-whole-2
-enum-known-whole-2 c = search needs
-
 returns-2 : tie.Need-returns-2
 returns-2 c = (syntax (over _ (omega arith) (whole-is (c .before .before)) (omega arith)), refl)
 
 returns-3 : tie.Need-returns-3
 returns-3 c = (many (many-entries _ (omega arith) (whole-is (c .before .before .before)) (omega arith) (omega arith)), refl)
 
-mul-need : tie.Need-mul-need
-mul-need c = search needs
-
 returns-4 : tie.Need-returns-4
 returns-4 c = (room (no-room _ (omega arith) (whole-is (c .before .before .before .before)) _ (omega arith) (omega arith) (omega arith)), refl)
 
-sub-copy : tie.Need-sub-copy
-sub-copy c = search needs
-
-part-copy-start : tie.Need-part-copy-start
-part-copy-start c = search needs
-
 part-copy-end : tie.Need-part-copy-end
 part-copy-end c = omega (arith, made-length _ (omega arith) (whole-is (c .before .before .before .before .before)))
-
-copy-requires : tie.Need-copy-requires
-copy-requires c κs = search needs
 
 returns-5 : tie.Need-returns-5
 returns-5 c =
     let no = subst (ExpressionAt _ _ _ _ _) (c .before .whole .given .1) (c .before .before .before .expression .ensures) in
     (syntax (stuck _ (omega arith) no), refl)
-
-same-length : tie.Need-same-length
-same-length c = search needs
 
 returns-6 : tie.Need-returns-6
 returns-6 c =
@@ -75,17 +51,17 @@ read-pattern-spec =
     tie.close
     (tie.spec
     returns
-    expression-requires
-    enum-known-whole
-    enum-known-whole-2
+    (λ c κs. search needs)
+    (λ c. search needs)
+    (λ c. search needs)
     returns-2
     returns-3
-    mul-need
+    (λ c. search needs)
     returns-4
-    sub-copy
-    part-copy-start
+    (λ c. search needs)
+    (λ c. search needs)
     part-copy-end
-    copy-requires
+    (λ c κs. search needs)
     returns-5
-    same-length
+    (λ c. search needs)
     returns-6)

@@ -6,12 +6,6 @@ use borrow.Author.Needs.{needs}
 use Rattle.watch.proofs.finish.Statement.{statement}
 use Rattle.watch.proofs.finish.Tie as tie
 
-finish-requires : tie.Need-finish-requires
-finish-requires c κs = search needs
-
-enum-known-n : tie.Need-enum-known-n
-enum-known-n c = search needs
-
 write-first-requires : tie.Need-write-first-requires
 write-first-requires c κs =
     let n = c .before .before in
@@ -22,24 +16,12 @@ write-first-requires c κs =
 enum-told : tie.Need-enum-told
 enum-told c = search needs
 
-same-length : tie.Need-same-length
-same-length c = search needs
-
-same-length-2 : tie.Need-same-length-2
-same-length-2 c = search needs
-
 returns : tie.Need-returns
 returns c =
     let n = c .before .before .before in
     let f = n .before .before .before .before .before .before in
     let w = subst (FinishAnswers _ _ _ _ _ _ _) (n .n .given .1) (f .finish .ensures) in
     record { answers = rw (c .write-first .ensures) w }
-
-same-length-3 : tie.Need-same-length-3
-same-length-3 c = search needs
-
-same-length-4 : tie.Need-same-length-4
-same-length-4 c = search needs
 
 returns-2 : tie.Need-returns-2
 returns-2 c =
@@ -51,13 +33,13 @@ pub finish-spec : {M : Type 1} → statement M
 finish-spec =
     tie.close
     (tie.spec
-    finish-requires
-    enum-known-n
+    (λ c κs. search needs)
+    (λ c. search needs)
     write-first-requires
     enum-told
-    same-length
-    same-length-2
+    (λ c. search needs)
+    (λ c. search needs)
     returns
-    same-length-3
-    same-length-4
+    (λ c. search needs)
+    (λ c. search needs)
     returns-2)

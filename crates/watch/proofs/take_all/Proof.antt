@@ -15,14 +15,8 @@ Inv-loop state₀ chunk₀ part₀ out₀ p₀ turns₀ state chunk part out p t
 abbrev μ-loop : tie.MeasureT-loop
 μ-loop state₀ chunk₀ part₀ out₀ p₀ turns₀ state chunk part out p turns = turns
 
-start-requires : tie.Need-start-requires Inv-loop μ-loop
-start-requires c κs = search needs
-
 loop-holds : tie.Need-loop-holds Inv-loop μ-loop
 loop-holds c = (input-none _ _ _ (c .start .ensures) refl, (λ h. refl), refl, refl, refl, refl)
-
-read-requires : tie.Need-read-requires Inv-loop μ-loop
-read-requires c κs = search needs
 
 take-read-requires : tie.Need-take-read-requires Inv-loop μ-loop
 take-read-requires c κs =
@@ -32,12 +26,6 @@ take-read-requires c κs =
       i .1 (c .before .before .before .before .before .before .before .before .loop-test .taken),
       record { words = omega (arith, i .2, e .words); held = omega (arith, i .4, e .held); room = omega (arith, i .5, e .room) },
     )
-
-turns-left-requires : tie.Need-turns-left-requires Inv-loop μ-loop
-turns-left-requires c κs = search needs
-
-loop-less : tie.Need-loop-less Inv-loop μ-loop
-loop-less c = search needs
 
 loop-again : tie.Need-loop-again Inv-loop μ-loop
 loop-again c =
@@ -53,36 +41,21 @@ loop-again c =
       k .1 .1 .0 ∙ i .5,
     )
 
-same-length : tie.Need-same-length Inv-loop μ-loop
-same-length c = search needs
-
-same-length-2 : tie.Need-same-length-2 Inv-loop μ-loop
-same-length-2 c = search needs
-
-same-length-3 : tie.Need-same-length-3 Inv-loop μ-loop
-same-length-3 c = search needs
-
-same-length-4 : tie.Need-same-length-4 Inv-loop μ-loop
-same-length-4 c = search needs
-
-returns : tie.Need-returns Inv-loop μ-loop
-returns c = search needs
-
 pub take-all-spec : {M : Type 1} → statement M
 take-all-spec =
     tie.close
     (tie.spec
     Inv-loop
     μ-loop
-    start-requires
+    (λ c κs. search needs)
     loop-holds
-    read-requires
+    (λ c κs. search needs)
     take-read-requires
-    turns-left-requires
-    loop-less
+    (λ c κs. search needs)
+    (λ c. search needs)
     loop-again
-    same-length
-    same-length-2
-    same-length-3
-    same-length-4
-    returns)
+    (λ c. search needs)
+    (λ c. search needs)
+    (λ c. search needs)
+    (λ c. search needs)
+    (λ c. search needs))

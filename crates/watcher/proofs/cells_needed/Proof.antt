@@ -35,12 +35,6 @@ pair-entry c = sym (c .before .before .before .entry-at .ensures) ∙ c .before 
 loop-holds : tie.Need-loop-holds Inv-loop μ-loop
 loop-holds c = (omega arith, omega arith, refl, unfold stackBy in rooming-start (c .before .args .body .now) (c .before .pre))
 
-entry-at-requires : tie.Need-entry-at-requires Inv-loop μ-loop
-entry-at-requires c κs = search needs
-
-add-i : tie.Need-add-i Inv-loop μ-loop
-add-i c = omega arith
-
 enum-told : tie.Need-enum-told Inv-loop μ-loop
 enum-told c = search needs
 
@@ -48,12 +42,6 @@ array-write-possible : tie.Need-array-write-possible Inv-loop μ-loop
 array-write-possible c =
     let l = c .before .before .before .before .loop in
     letter-fits (l .possible) (l .d) (l .inv .2) (l .inv .3 .piled) (omega arith) (l .inv .3 .most) _ (letter-entry c)
-
-add-d : tie.Need-add-d Inv-loop μ-loop
-add-d c = omega arith
-
-loop-less : tie.Need-loop-less Inv-loop μ-loop
-loop-less c = omega arith
 
 loop-again : tie.Need-loop-again Inv-loop μ-loop
 loop-again c =
@@ -65,9 +53,6 @@ loop-again c =
       rw (letter-stack (l .possible) (l .d) (l .inv .2) (x .piled) (omega arith) (x .most) _ (letter-entry c))
           (rooming-letter x (omega arith) _ (letter-entry c)),
     )
-
-enum-known-entry : tie.Need-enum-known-entry Inv-loop μ-loop
-enum-known-entry c = search needs
 
 -- an operator finds its operands on the stack, and their p are small
 two : (c : tie.After-known-told Inv-loop μ-loop) → 2 ≤ c .before .before .before .before .before .loop .d
@@ -94,9 +79,6 @@ sub-x c = omega (arith, two c)
 array-read-x : tie.Need-array-read-x Inv-loop μ-loop
 array-read-x c = omega (arith, two c)
 
-possible-starts-requires : tie.Need-possible-starts-requires Inv-loop μ-loop
-possible-starts-requires c κs = search needs
-
 cast-possible : tie.Need-cast-possible Inv-loop μ-loop
 cast-possible c =
     let l = c .before .before .before .before .before .before .loop in
@@ -113,9 +95,6 @@ sub-possible c = omega (arith, two (c .before))
 array-write-possible-2 : tie.Need-array-write-possible-2 Inv-loop μ-loop
 array-write-possible-2 c = omega (arith, two (c .before))
 
-size-requires : tie.Need-size-requires Inv-loop μ-loop
-size-requires c κs = search needs
-
 add-words : tie.Need-add-words Inv-loop μ-loop
 add-words c =
     let k = c .before .before in
@@ -127,9 +106,6 @@ add-words c =
 
 sub-d : tie.Need-sub-d Inv-loop μ-loop
 sub-d c = omega (arith, two (c .before .before))
-
-loop-less-2 : tie.Need-loop-less-2 Inv-loop μ-loop
-loop-less-2 c = omega arith
 
 loop-again-2 : tie.Need-loop-again-2 Inv-loop μ-loop
 loop-again-2 c =
@@ -145,22 +121,10 @@ loop-again-2 c =
           (rooming-pair (rw s at x) (omega arith) _ q),
     )
 
-enum-told-2 : tie.Need-enum-told-2 Inv-loop μ-loop
-enum-told-2 c = search needs
-
-loop-less-3 : tie.Need-loop-less-3 Inv-loop μ-loop
-loop-less-3 c = omega arith
-
 loop-again-3 : tie.Need-loop-again-3 Inv-loop μ-loop
 loop-again-3 c =
     let l = c .before .before .before .before .loop in
     (omega arith, l .inv .1, l .inv .2, rooming-within (l .inv .3) (omega arith) _ (sym (c .before .before .entry-at .ensures) ∙ c .enum-told2 .given .1))
-
-enum-told-3 : tie.Need-enum-told-3 Inv-loop μ-loop
-enum-told-3 c = search needs
-
-loop-less-4 : tie.Need-loop-less-4 Inv-loop μ-loop
-loop-less-4 c = omega arith
 
 loop-again-4 : tie.Need-loop-again-4 Inv-loop μ-loop
 loop-again-4 c =
@@ -179,31 +143,31 @@ cells-needed-spec =
     Inv-loop
     μ-loop
     loop-holds
-    entry-at-requires
-    add-i
+    (λ c κs. search needs)
+    (λ c. omega arith)
     enum-told
     array-write-possible
-    add-d
-    loop-less
+    (λ c. omega arith)
+    (λ c. omega arith)
     loop-again
-    enum-known-entry
+    (λ c. search needs)
     sub-y
     array-read-y
     sub-x
     array-read-x
-    possible-starts-requires
+    (λ c κs. search needs)
     cast-possible
     sub-possible
     array-write-possible-2
-    size-requires
+    (λ c κs. search needs)
     add-words
     sub-d
-    loop-less-2
+    (λ c. omega arith)
     loop-again-2
-    enum-told-2
-    loop-less-3
+    (λ c. search needs)
+    (λ c. omega arith)
     loop-again-3
-    enum-told-3
-    loop-less-4
+    (λ c. search needs)
+    (λ c. omega arith)
     loop-again-4
     returns)

@@ -16,20 +16,8 @@ abbrev μ-loop : tie.MeasureT-loop
 loop-holds : tie.Need-loop-holds Inv-loop μ-loop
 loop-holds c = putting-none _ _ _ _
 
-add-state : tie.Need-add-state Inv-loop μ-loop
-add-state c = omega arith
-
-mul-state : tie.Need-mul-state Inv-loop μ-loop
-mul-state c = omega arith
-
 slice-write-state : tie.Need-slice-write-state Inv-loop μ-loop
 slice-write-state c = omega (arith, c .before .loop .inv .long)
-
-add-j : tie.Need-add-j Inv-loop μ-loop
-add-j c = omega arith
-
-loop-less : tie.Need-loop-less Inv-loop μ-loop
-loop-less c = omega arith
 
 loop-again : tie.Need-loop-again Inv-loop μ-loop
 loop-again c = putting-more _ _ _ _ _ _ 0 (c .before .before .pre) (omega arith) (c .before .loop .inv) refl
@@ -47,11 +35,11 @@ clear-spec =
     Inv-loop
     μ-loop
     loop-holds
-    add-state
-    mul-state
+    (λ c. omega arith)
+    (λ c. omega arith)
     slice-write-state
-    add-j
-    loop-less
+    (λ c. omega arith)
+    (λ c. omega arith)
     loop-again
     same-length
     returns)

@@ -9,29 +9,17 @@ use Rattle.watcher.proofs.extent.Tie as tie
 returns : tie.Need-returns
 returns c = extent-none _ (formed-short _ (omega arith))
 
-shared-slice-read-count : tie.Need-shared-slice-read-count
-shared-slice-read-count c = search needs
-
 returns-2 : tie.Need-returns-2
 returns-2 c = extent-none _ (formed-least _ (omega arith))
 
 returns-3 : tie.Need-returns-3
 returns-3 c = extent-none _ (formed-most _ (omega arith) (omega arith))
 
-add-if4 : tie.Need-add-if4
-add-if4 c = search needs
-
 returns-4 : tie.Need-returns-4
 returns-4 c = extent-none _ (formed-long _ (omega arith) (omega arith) (omega arith))
 
-shared-slice-read-if5 : tie.Need-shared-slice-read-if5
-shared-slice-read-if5 c = search needs
-
 returns-5 : tie.Need-returns-5
 returns-5 c = extent-none _ (formed-early _ (omega arith) (omega arith) (omega arith) (omega arith))
-
-judged-end-requires : tie.Need-judged-end-requires
-judged-end-requires c κs = search needs
 
 returns-6 : tie.Need-returns-6
 returns-6 c = c .judged-end .ensures ∙ extent-judged _ (omega arith) (omega arith) (omega arith) (omega arith)
@@ -41,12 +29,12 @@ extent-spec =
     tie.close
     (tie.spec
     returns
-    shared-slice-read-count
+    (λ c. search needs)
     returns-2
     returns-3
-    add-if4
+    (λ c. search needs)
     returns-4
-    shared-slice-read-if5
+    (λ c. search needs)
     returns-5
-    judged-end-requires
+    (λ c κs. search needs)
     returns-6)

@@ -39,21 +39,6 @@ returns c = (uneven (λ e. omega arith) refl, refl, refl)
 returns-2 : tie.Need-returns-2
 returns-2 c = (short (omega arith) (omega arith) refl, refl, refl)
 
-extent-requires : tie.Need-extent-requires
-extent-requires c κs = search needs
-
-next-tick-requires : tie.Need-next-tick-requires
-next-tick-requires c κs = search needs
-
-first-fault-requires : tie.Need-first-fault-requires
-first-fault-requires c κs = search needs
-
-enum-known-r : tie.Need-enum-known-r
-enum-known-r c = search needs
-
-same-length : tie.Need-same-length
-same-length c = search needs
-
 returns-3 : tie.Need-returns-3
 returns-3 c =
     let f = c .before .before .before in
@@ -65,19 +50,10 @@ enum-told c = search needs
 steps-requires : tie.Need-steps-requires
 steps-requires c κs = ready (c .before .before)
 
-same-length-2 : tie.Need-same-length-2
-same-length-2 c = search needs
-
-same-length-3 : tie.Need-same-length-3
-same-length-3 c = search needs
-
 returns-4 : tie.Need-returns-4
 returns-4 c =
     let p = c .before .before .before .before in
     fed-all (ready (p .before .before .before)) (p .steps .ensures)
-
-same-length-4 : tie.Need-same-length-4
-same-length-4 c = search needs
 
 returns-5 : tie.Need-returns-5
 returns-5 c = (fed-broken _ _ _ _ (omega arith) (omega arith) (extent-broken _ (omega arith)), refl, refl)
@@ -88,16 +64,16 @@ feed-spec =
     (tie.spec
     returns
     returns-2
-    extent-requires
-    next-tick-requires
-    first-fault-requires
-    enum-known-r
-    same-length
+    (λ c κs. search needs)
+    (λ c κs. search needs)
+    (λ c κs. search needs)
+    (λ c. search needs)
+    (λ c. search needs)
     returns-3
     enum-told
     steps-requires
-    same-length-2
-    same-length-3
+    (λ c. search needs)
+    (λ c. search needs)
     returns-4
-    same-length-4
+    (λ c. search needs)
     returns-5)

@@ -30,23 +30,11 @@ needed : (c : tie.After-cells-needed)
 unfolding wordsNeeded
 needed c = omega (arith, c .cells-needed .ensures)
 
-check-body-requires : tie.Need-check-body-requires
-check-body-requires c κs = search needs
-
-enum-known-r : tie.Need-enum-known-r
-enum-known-r c = search needs
-
 enum-told : tie.Need-enum-told
 enum-told c = search needs
 
 cells-needed-requires : tie.Need-cells-needed-requires
 cells-needed-requires c κs = sound c
-
-add-needed : tie.Need-add-needed
-add-needed c = search needs
-
-add-needed-2 : tie.Need-add-needed-2
-add-needed-2 c = search needs
 
 returns : tie.Need-returns
 returns c =
@@ -71,9 +59,6 @@ write-opened-requires c κs =
 returns-2 : tie.Need-returns-2
 returns-2 c = (unsound (sym (c .before .before .before .check-body .ensures) ∙ c .before .r .given .1), refl)
 
-same-length : tie.Need-same-length
-same-length c = search needs
-
 returns-3 : tie.Need-returns-3
 returns-3 c =
     let o = c .before .before in
@@ -87,14 +72,14 @@ pub open-spec : {M : Type 1} → statement M
 open-spec =
     tie.close
     (tie.spec
-    check-body-requires
-    enum-known-r
+    (λ c κs. search needs)
+    (λ c. search needs)
     enum-told
     cells-needed-requires
-    add-needed
-    add-needed-2
+    (λ c. search needs)
+    (λ c. search needs)
     returns
     write-opened-requires
     returns-2
-    same-length
+    (λ c. search needs)
     returns-3)

@@ -16,23 +16,11 @@ use Rattle.watcher.proofs.room.Tie as tie
 sound : (c : tie.After-enum-told) → checkOf argumentBytes (c .before .before .before .before .args .body .now) ≡ Sound
 sound c = sym (c .before .before .check-body .ensures) ∙ c .enum-told .given .1
 
-check-body-requires : tie.Need-check-body-requires
-check-body-requires c κs = search needs
-
-enum-known-r : tie.Need-enum-known-r
-enum-known-r c = search needs
-
 enum-told : tie.Need-enum-told
 enum-told c = search needs
 
-add-t7 : tie.Need-add-t7
-add-t7 c = search needs
-
 cells-needed-requires : tie.Need-cells-needed-requires
 cells-needed-requires c κs = sound c
-
-add-t9 : tie.Need-add-t9
-add-t9 c = search needs
 
 returns : tie.Need-returns
 returns c = sym (c .before .before .before .check-body .ensures) ∙ c .before .r .given .1
@@ -49,11 +37,11 @@ pub room-spec : {M : Type 1} → statement M
 room-spec =
     tie.close
     (tie.spec
-    check-body-requires
-    enum-known-r
+    (λ c κs. search needs)
+    (λ c. search needs)
     enum-told
-    add-t7
+    (λ c. search needs)
     cells-needed-requires
-    add-t9
+    (λ c. search needs)
     returns
     returns-2)

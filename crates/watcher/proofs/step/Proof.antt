@@ -12,17 +12,11 @@ slice-read-if1 c = omega (arith, ready-long (steps-ready (c .before .before .pre
 step-small-requires : tie.Need-step-small-requires
 step-small-requires c κs = (steps-ready (c .before .before .before .before .pre), omega arith)
 
-same-length : tie.Need-same-length
-same-length c = search needs
-
 returns : tie.Need-returns
 returns c = steps-ticked (c .before .before .before .before .before .before .before .pre) (c .before .before .step-small .ensures)
 
 step-large-requires : tie.Need-step-large-requires
 step-large-requires c κs = steps-ready (c .before .before .before .before .pre)
-
-same-length-2 : tie.Need-same-length-2
-same-length-2 c = search needs
 
 returns-2 : tie.Need-returns-2
 returns-2 c = steps-ticked (c .before .before .before .before .before .before .before .pre) (c .before .before .step-large .ensures)
@@ -33,8 +27,8 @@ step-spec =
     (tie.spec
     slice-read-if1
     step-small-requires
-    same-length
+    (λ c. search needs)
     returns
     step-large-requires
-    same-length-2
+    (λ c. search needs)
     returns-2)

@@ -10,9 +10,6 @@ use borrow.Author.Needs.{needs}
 use Rattle.watcher.proofs.word_at.Statement.{statement}
 use Rattle.watcher.proofs.word_at.Tie as tie
 
-entry-at-requires : tie.Need-entry-at-requires
-entry-at-requires c κs = search needs
-
 word-of-requires : tie.Need-word-of-requires
 word-of-requires c κs = subst Narrow (sym (c .entry-at .ensures)) (fits-narrow (entryAt argumentBytes (c .before .before .args .body .now) (c .before .before .args .i)) (read-fits argumentBytes (c .before .before .args .body .now) (c .before .before .args .i)))
 
@@ -20,4 +17,4 @@ returns : tie.Need-returns
 returns c = c .word-of .ensures ∙ ap wordOf (c .before .entry-at .ensures)
 
 pub word-at-spec : {M : Type 1} → statement M
-word-at-spec = tie.close (tie.spec entry-at-requires word-of-requires returns)
+word-at-spec = tie.close (tie.spec (λ c κs. search needs) word-of-requires returns)

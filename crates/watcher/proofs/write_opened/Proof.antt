@@ -11,9 +11,6 @@ use Rattle.watcher.proofs.write_opened.Tie as tie
 two-long : (s : tie.Start) → length (set (set (s .args .state .now) 0 (s .args .n)) 1 0) ≡ length (s .args .state .now)
 two-long s = length-set (set (s .args .state .now) 0 (s .args .n)) 1 0 ∙ length-set (s .args .state .now) 0 (s .args .n)
 
-slice-write-state : tie.Need-slice-write-state
-slice-write-state c = search needs
-
 slice-write-state-2 : tie.Need-slice-write-state-2
 slice-write-state-2 c =
     let s = c .before .before in
@@ -23,9 +20,6 @@ write-entries-requires : tie.Need-write-entries-requires
 write-entries-requires c κs =
     let s = c .before .before .before in
     omega (arith, two-long s, s .pre .room)
-
-add-clear : tie.Need-add-clear
-add-clear c = search needs
 
 clear-requires : tie.Need-clear-requires
 clear-requires c κs =
@@ -54,10 +48,10 @@ pub write-opened-spec : {M : Type 1} → statement M
 write-opened-spec =
     tie.close
     (tie.spec
-    slice-write-state
+    (λ c. search needs)
     slice-write-state-2
     write-entries-requires
-    add-clear
+    (λ c. search needs)
     clear-requires
     same-length
     returns)

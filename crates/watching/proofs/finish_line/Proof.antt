@@ -8,15 +8,6 @@ use Rattle.watching.proofs.finish_line.Tie as tie
 returns : tie.Need-returns
 returns c = is-unfinished (c .before .before .before .args .run) _ (c .if1 .taken)
 
-write-tally-requires : tie.Need-write-tally-requires
-write-tally-requires c κs = search needs
-
-bytes-in-requires : tie.Need-bytes-in-requires
-bytes-in-requires c κs = search needs
-
-same-length : tie.Need-same-length
-same-length c = search needs
-
 returns-2 : tie.Need-returns-2
 returns-2 c =
     let wrote = c .before .before .before in
@@ -26,4 +17,4 @@ returns-2 c =
 
 pub finish-line-spec : {M : Type 1} → statement M
 finish-line-spec =
-    tie.close (tie.spec returns write-tally-requires bytes-in-requires same-length returns-2)
+    tie.close (tie.spec returns (λ c κs. search needs) (λ c κs. search needs) (λ c. search needs) returns-2)

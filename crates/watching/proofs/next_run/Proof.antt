@@ -3,12 +3,9 @@ use borrow.Author.Needs.{needs}
 use Rattle.watching.proofs.next_run.Statement.{statement}
 use Rattle.watching.proofs.next_run.Tie as tie
 
-next-line-requires : tie.Need-next-line-requires
-next-line-requires c κs = search needs
-
 returns : tie.Need-returns
 returns c =
     rw (c .next-line .ensures)
 
 pub next-run-spec : {M : Type 1} → statement M
-next-run-spec = tie.close (tie.spec next-line-requires returns)
+next-run-spec = tie.close (tie.spec (λ c κs. search needs) returns)

@@ -10,44 +10,17 @@ use borrow.Author.Needs.{needs}
 use Rattle.watching.proofs.open_line.Statement.{statement}
 use Rattle.watching.proofs.open_line.Tie as tie
 
-slice-aggregate-read-pattern : tie.Need-slice-aggregate-read-pattern
-slice-aggregate-read-pattern c = search needs
-
-read-pattern-requires : tie.Need-read-pattern-requires
-read-pattern-requires c κs = search needs
-
-enum-known-reading : tie.Need-enum-known-reading
-enum-known-reading c = search needs
-
-enum-known-reading-2 : tie.Need-enum-known-reading-2
-enum-known-reading-2 c = search needs
-
-sub-open : tie.Need-sub-open
-sub-open c = search needs
-
-part-open-start : tie.Need-part-open-start
-part-open-start c = search needs
-
 part-open-end : tie.Need-part-open-end
 part-open-end c =
     let read = subst (ReadingOf _ _ _) (c .before .before .reading2 .given .1) (c .before .before .before .before .before .read-pattern .ensures) in
     omega (arith, read .fits)
 
-open-requires : tie.Need-open-requires
-open-requires c κs = search needs
-
 enum-told : tie.Need-enum-told
 enum-told c = search needs
-
-enum-known-r : tie.Need-enum-known-r
-enum-known-r c = search needs
 
 returns : tie.Need-returns
 returns c =
     unread (subst (ReadingOf _ _ _) (c .before .reading .given .1) (c .before .before .before .before .read-pattern .ensures)) refl
-
-same-length : tie.Need-same-length
-same-length c = search needs
 
 returns-2 : tie.Need-returns-2
 returns-2 c =
@@ -57,9 +30,6 @@ returns-2 c =
     opened (subst (ReadingOf _ _ _) (known .reading2 .given .1) (reads .read-pattern .ensures))
     (part-opened (known .reading2 .given .0 .0) (reads .read-pattern .last .1 .0) _ _ Opens.Opened
     (subst (OpenAnswers _ _ _) (c .enum-told .given .1) (opens .«open» .ensures)))
-
-same-length-2 : tie.Need-same-length-2
-same-length-2 c = search needs
 
 returns-3 : tie.Need-returns-3
 returns-3 c =
@@ -74,18 +44,18 @@ pub open-line-spec : {M : Type 1} → statement M
 open-line-spec =
     tie.close
     (tie.spec
-    slice-aggregate-read-pattern
-    read-pattern-requires
-    enum-known-reading
-    enum-known-reading-2
-    sub-open
-    part-open-start
+    (λ c. search needs)
+    (λ c κs. search needs)
+    (λ c. search needs)
+    (λ c. search needs)
+    (λ c. search needs)
+    (λ c. search needs)
     part-open-end
-    open-requires
+    (λ c κs. search needs)
     enum-told
-    enum-known-r
+    (λ c. search needs)
     returns
-    same-length
+    (λ c. search needs)
     returns-2
-    same-length-2
+    (λ c. search needs)
     returns-3)

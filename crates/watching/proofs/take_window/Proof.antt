@@ -4,39 +4,12 @@ use borrow.Author.Needs.{needs}
 use Rattle.watching.proofs.take_window.Statement.{statement}
 use Rattle.watching.proofs.take_window.Tie as tie
 
-added-requires : tie.Need-added-requires
-added-requires c κs = search needs
-
-enum-known-r : tie.Need-enum-known-r
-enum-known-r c = search needs
-
-refused-requires : tie.Need-refused-requires
-refused-requires c κs = search needs
-
-enum-known-more : tie.Need-enum-known-more
-enum-known-more c = search needs
-
-next-line-requires : tie.Need-next-line-requires
-next-line-requires c κs = search needs
-
-write-window-requires : tie.Need-write-window-requires
-write-window-requires c κs = search needs
-
-bytes-in-requires : tie.Need-bytes-in-requires
-bytes-in-requires c κs = search needs
-
-same-length : tie.Need-same-length
-same-length c = search needs
-
 returns : tie.Need-returns
 returns c =
     let known = c .before .before .before .before .before in
     let adds = known .before .before in
     let s = adds .before .before .before in
     is-full _ _ _ _ _ _ _ _ (adds .added .ensures) (known .r .given .1) (c .before .before .refused .ensures)
-
-same-length-2 : tie.Need-same-length-2
-same-length-2 c = search needs
 
 returns-2 : tie.Need-returns-2
 returns-2 c =
@@ -52,14 +25,14 @@ pub take-window-spec : {M : Type 1} → statement M
 take-window-spec =
     tie.close
     (tie.spec
-    added-requires
-    enum-known-r
-    refused-requires
-    enum-known-more
-    next-line-requires
-    write-window-requires
-    bytes-in-requires
-    same-length
+    (λ c κs. search needs)
+    (λ c. search needs)
+    (λ c κs. search needs)
+    (λ c. search needs)
+    (λ c κs. search needs)
+    (λ c κs. search needs)
+    (λ c κs. search needs)
+    (λ c. search needs)
     returns
-    same-length-2
+    (λ c. search needs)
     returns-2)

@@ -7,33 +7,12 @@ use borrow.Author.Needs.{needs}
 use Rattle.watching.proofs.tick_line.Statement.{statement}
 use Rattle.watching.proofs.tick_line.Tie as tie
 
-read-tick-requires : tie.Need-read-tick-requires
-read-tick-requires c κs = search needs
-
-enum-known-r : tie.Need-enum-known-r
-enum-known-r c = search needs
-
-enum-known-t : tie.Need-enum-known-t
-enum-known-t c = search needs
-
-tick-requires : tie.Need-tick-requires
-tick-requires c κs = search needs
-
-enum-known-start : tie.Need-enum-known-start
-enum-known-start c = search needs
-
 enum-told : tie.Need-enum-told
 enum-told c = search needs
-
-enum-known-r-2 : tie.Need-enum-known-r-2
-enum-known-r-2 c = search needs
 
 returns : tie.Need-returns
 returns c =
     unread (subst (LineReadOf _) (c .before .r .given .1) (c .before .before .before .read-tick .ensures)) refl
-
-same-length : tie.Need-same-length
-same-length c = search needs
 
 returns-2 : tie.Need-returns-2
 returns-2 c =
@@ -42,18 +21,12 @@ returns-2 c =
     window (subst (LineReadOf _) (known .t .given .1) (known .before .before .read-tick .ensures))
     (subst (TickAnswers _ _ _ _) (c .before .start .given .1) (ticks .tick .ensures))
 
-same-length-2 : tie.Need-same-length-2
-same-length-2 c = search needs
-
 returns-3 : tie.Need-returns-3
 returns-3 c =
     let ticks = c .before .before .before .before in
     let known = ticks .before .before .before in
     nothing (subst (LineReadOf _) (known .t .given .1) (known .before .before .read-tick .ensures))
     (subst (TickAnswers _ _ _ _) (c .enum-told .given .1) (ticks .tick .ensures))
-
-same-length-3 : tie.Need-same-length-3
-same-length-3 c = search needs
 
 returns-4 : tie.Need-returns-4
 returns-4 c =
@@ -66,17 +39,17 @@ pub tick-line-spec : {M : Type 1} → statement M
 tick-line-spec =
     tie.close
     (tie.spec
-    read-tick-requires
-    enum-known-r
-    enum-known-t
-    tick-requires
-    enum-known-start
+    (λ c κs. search needs)
+    (λ c. search needs)
+    (λ c. search needs)
+    (λ c κs. search needs)
+    (λ c. search needs)
     enum-told
-    enum-known-r-2
+    (λ c. search needs)
     returns
-    same-length
+    (λ c. search needs)
     returns-2
-    same-length-2
+    (λ c. search needs)
     returns-3
-    same-length-3
+    (λ c. search needs)
     returns-4)

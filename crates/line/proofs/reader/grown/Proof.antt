@@ -9,12 +9,6 @@ use Rattle.rules.proofs.Decisions.{pick-yes, pick-no}
 use Rattle.line.proofs.reader.grown.Statement.{statement}
 use Rattle.line.proofs.reader.grown.Tie as tie
 
-mul-result : tie.Need-mul-result
-mul-result c = search needs
-
-add-result : tie.Need-add-result
-add-result c = search needs
-
 returns : tie.Need-returns
 returns c = let h = c .before .args in sym (pick-yes (decLt (h .n) ticks) (h .n * 10 + h .d) (h .n) (c .if1 .taken))
 
@@ -22,4 +16,4 @@ returns-2 : tie.Need-returns-2
 returns-2 c = let h = c .before .args in sym (pick-no (decLt (h .n) ticks) (h .n * 10 + h .d) (h .n) (λ k. omega arith))
 
 pub grown-spec : {M : Type 1} → statement M
-grown-spec = tie.close (tie.spec mul-result add-result returns returns-2)
+grown-spec = tie.close (tie.spec (λ c. search needs) (λ c. search needs) returns returns-2)

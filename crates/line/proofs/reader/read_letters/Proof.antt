@@ -17,12 +17,6 @@ abbrev μ-loop : tie.MeasureT-loop
 loop-holds : tie.Need-loop-holds Inv-loop μ-loop
 loop-holds c = letters-start _ _ (c .before .pre)
 
-shared-slice-read-letter : tie.Need-shared-slice-read-letter Inv-loop μ-loop
-shared-slice-read-letter c = search needs
-
-letter-requires : tie.Need-letter-requires Inv-loop μ-loop
-letter-requires c κs = search needs
-
 returns : tie.Need-returns Inv-loop μ-loop
 returns c = letters-low (c .before .before .before .before .loop .inv) (omega arith) _ (c .before .letter .ensures) (omega arith)
 
@@ -31,25 +25,10 @@ returns-2 c =
     let l = c .before .before in
     letters-other (l .before .before .before .loop .inv) (omega arith) _ (l .letter .ensures) (omega arith) (omega arith)
 
-cast-events : tie.Need-cast-events Inv-loop μ-loop
-cast-events c = search needs
-
-shl-events : tie.Need-shl-events Inv-loop μ-loop
-shl-events c = search needs
-
 add-events : tie.Need-add-events Inv-loop μ-loop
 add-events c =
     let l = c .before .before in
     record { fits = word-sum _ _ _ (omega arith) (omega arith) (l .before .before .before .loop .inv .fits) }
-
-add-next : tie.Need-add-next Inv-loop μ-loop
-add-next c = search needs
-
-add-i : tie.Need-add-i Inv-loop μ-loop
-add-i c = search needs
-
-loop-less : tie.Need-loop-less Inv-loop μ-loop
-loop-less c = search needs
 
 loop-again : tie.Need-loop-again Inv-loop μ-loop
 loop-again c =
@@ -66,15 +45,15 @@ read-letters-spec =
     Inv-loop
     μ-loop
     loop-holds
-    shared-slice-read-letter
-    letter-requires
+    (λ c. search needs)
+    (λ c κs. search needs)
     returns
     returns-2
-    cast-events
-    shl-events
+    (λ c. search needs)
+    (λ c. search needs)
     add-events
-    add-next
-    add-i
-    loop-less
+    (λ c. search needs)
+    (λ c. search needs)
+    (λ c. search needs)
     loop-again
     returns-3)

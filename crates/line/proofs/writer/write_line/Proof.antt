@@ -36,36 +36,6 @@ line-is c =
     before-back (before-back (before-back (before-back (second .before .before .before .write-byte .ensures) (second .write-number .ensures))
     (middle .write-word .ensures)) (first .write-number2 .ensures)) (c .write-word2 .ensures)
 
-slice-aggregate-write-byte : tie.Need-slice-aggregate-write-byte
-slice-aggregate-write-byte c = search needs
-
-write-byte-requires : tie.Need-write-byte-requires
-write-byte-requires c κs = search needs
-
-slice-aggregate-write-number : tie.Need-slice-aggregate-write-number
-slice-aggregate-write-number c = search needs
-
-write-number-requires : tie.Need-write-number-requires
-write-number-requires c κs = search needs
-
-slice-aggregate-write-word : tie.Need-slice-aggregate-write-word
-slice-aggregate-write-word c = search needs
-
-write-word-requires : tie.Need-write-word-requires
-write-word-requires c κs = search needs
-
-slice-aggregate-write-number-2 : tie.Need-slice-aggregate-write-number-2
-slice-aggregate-write-number-2 c = search needs
-
-write-number-requires-2 : tie.Need-write-number-requires-2
-write-number-requires-2 c κs = search needs
-
-slice-aggregate-write-word-2 : tie.Need-slice-aggregate-write-word-2
-slice-aggregate-write-word-2 c = search needs
-
-write-word-requires-2 : tie.Need-write-word-requires-2
-write-word-requires-2 c κs = search needs
-
 sub-need : tie.Need-sub-need
 sub-need c = omega (arith, line-is (c .before) .begins)
 
@@ -88,12 +58,6 @@ part-copy-end c =
     let m = made-length (fits (start-of w)) (line-is w) in
     omega arith
 
-copy-requires : tie.Need-copy-requires
-copy-requires c κs = search needs
-
-same-length : tie.Need-same-length
-same-length c = search needs
-
 returns-2 : tie.Need-returns-2
 returns-2 c =
     let copy = c .before .before in
@@ -104,21 +68,21 @@ pub write-line-spec : {M : Type 1} → statement M
 write-line-spec =
     tie.close
     (tie.spec
-    slice-aggregate-write-byte
-    write-byte-requires
-    slice-aggregate-write-number
-    write-number-requires
-    slice-aggregate-write-word
-    write-word-requires
-    slice-aggregate-write-number-2
-    write-number-requires-2
-    slice-aggregate-write-word-2
-    write-word-requires-2
+    (λ c. search needs)
+    (λ c κs. search needs)
+    (λ c. search needs)
+    (λ c κs. search needs)
+    (λ c. search needs)
+    (λ c κs. search needs)
+    (λ c. search needs)
+    (λ c κs. search needs)
+    (λ c. search needs)
+    (λ c κs. search needs)
     sub-need
     returns
     sub-copy
     part-copy-start
     part-copy-end
-    copy-requires
-    same-length
+    (λ c κs. search needs)
+    (λ c. search needs)
     returns-2)

@@ -14,18 +14,6 @@ abbrev μ-loop : tie.MeasureT-loop
 loop-holds : tie.Need-loop-holds Inv-loop μ-loop
 loop-holds c = word-start _ _ _
 
-sub-left : tie.Need-sub-left Inv-loop μ-loop
-sub-left c = search needs
-
-shared-slice-read-write-byte : tie.Need-shared-slice-read-write-byte Inv-loop μ-loop
-shared-slice-read-write-byte c = search needs
-
-write-byte-requires : tie.Need-write-byte-requires Inv-loop μ-loop
-write-byte-requires c κs = search needs
-
-loop-less : tie.Need-loop-less Inv-loop μ-loop
-loop-less c = search needs
-
 loop-again : tie.Need-loop-again Inv-loop μ-loop
 loop-again c =
     let w = c .before .before in
@@ -44,10 +32,10 @@ write-word-spec =
     Inv-loop
     μ-loop
     loop-holds
-    sub-left
-    shared-slice-read-write-byte
-    write-byte-requires
-    loop-less
+    (λ c. search needs)
+    (λ c. search needs)
+    (λ c κs. search needs)
+    (λ c. search needs)
     loop-again
     same-length
     returns)

@@ -16,20 +16,8 @@ abbrev μ-loop : tie.MeasureT-loop
 returns : tie.Need-returns Inv-loop μ-loop
 returns c = bad-end _ _ (omega arith)
 
-shared-slice-read-digit : tie.Need-shared-slice-read-digit Inv-loop μ-loop
-shared-slice-read-digit c = search needs
-
-digit-requires : tie.Need-digit-requires Inv-loop μ-loop
-digit-requires c κs = search needs
-
 returns-2 : tie.Need-returns-2 Inv-loop μ-loop
 returns-2 c = bad-first _ _ (omega arith) (omega arith)
-
-cast-value : tie.Need-cast-value Inv-loop μ-loop
-cast-value c = search needs
-
-add-end : tie.Need-add-end Inv-loop μ-loop
-add-end c = search needs
 
 returns-3 : tie.Need-returns-3 Inv-loop μ-loop
 returns-3 c = value-zero _ _ (omega arith) (omega arith)
@@ -37,34 +25,13 @@ returns-3 c = value-zero _ _ (omega arith) (omega arith)
 loop-holds : tie.Need-loop-holds Inv-loop μ-loop
 loop-holds c = digits-first _ _ _ (omega arith) (c .before .before .digit .ensures) (omega arith) (omega arith)
 
-shared-slice-read-digit-2 : tie.Need-shared-slice-read-digit-2 Inv-loop μ-loop
-shared-slice-read-digit-2 c = search needs
-
-digit-requires-2 : tie.Need-digit-requires-2 Inv-loop μ-loop
-digit-requires-2 c κs = search needs
-
 returns-4 : tie.Need-returns-4 Inv-loop μ-loop
 returns-4 c = value-other _ _ _ _ (c .before .before .before .before .loop .inv) (omega arith) (omega arith)
-
-mul-more : tie.Need-mul-more Inv-loop μ-loop
-mul-more c = search needs
-
-cast-more : tie.Need-cast-more Inv-loop μ-loop
-cast-more c = search needs
-
-add-more : tie.Need-add-more Inv-loop μ-loop
-add-more c = search needs
 
 returns-5 : tie.Need-returns-5 Inv-loop μ-loop
 returns-5 c =
     bad-over _ _ _ _ (c .before .before .before .before .before .loop .inv)
     _ (omega arith) (c .before .before .digit2 .ensures) (omega arith) (omega arith)
-
-add-end-2 : tie.Need-add-end-2 Inv-loop μ-loop
-add-end-2 c = search needs
-
-loop-less : tie.Need-loop-less Inv-loop μ-loop
-loop-less c = search needs
 
 loop-again : tie.Need-loop-again Inv-loop μ-loop
 loop-again c =
@@ -81,21 +48,21 @@ read-number-spec =
     Inv-loop
     μ-loop
     returns
-    shared-slice-read-digit
-    digit-requires
+    (λ c. search needs)
+    (λ c κs. search needs)
     returns-2
-    cast-value
-    add-end
+    (λ c. search needs)
+    (λ c. search needs)
     returns-3
     loop-holds
-    shared-slice-read-digit-2
-    digit-requires-2
+    (λ c. search needs)
+    (λ c κs. search needs)
     returns-4
-    mul-more
-    cast-more
-    add-more
+    (λ c. search needs)
+    (λ c. search needs)
+    (λ c. search needs)
     returns-5
-    add-end-2
-    loop-less
+    (λ c. search needs)
+    (λ c. search needs)
     loop-again
     returns-6)

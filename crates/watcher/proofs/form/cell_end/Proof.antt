@@ -14,9 +14,6 @@ use Rattle.watcher.proofs.form.Judging.{cell-taken, cell-short, cell-br
 use Rattle.watcher.proofs.form.cell_end.Statement.{statement}
 use Rattle.watcher.proofs.form.cell_end.Tie as tie
 
-size-requires : tie.Need-size-requires
-size-requires c κs = search needs
-
 add-end : tie.Need-add-end
 add-end c =
     let z = c .before .before in
@@ -26,24 +23,6 @@ returns : tie.Need-returns
 returns c =
     let z = c .before .before .before in
     cell-short (z .args .state .now) (z .args .op) (z .args .at) (z .args .y) (z .pre .inside) (omega (arith, c .before .size .ensures))
-
-mul-in-form : tie.Need-mul-in-form
-mul-in-form c = search needs
-
-sub-in-form : tie.Need-sub-in-form
-sub-in-form c = search needs
-
-part-in-form-start : tie.Need-part-in-form-start
-part-in-form-start c = search needs
-
-part-in-form-end : tie.Need-part-in-form-end
-part-in-form-end c = search needs
-
-shared-slice-read-in-form : tie.Need-shared-slice-read-in-form
-shared-slice-read-in-form c = search needs
-
-in-form-requires : tie.Need-in-form-requires
-in-form-requires c κs = search needs
 
 -- what the call told of the cell
 told : (c : tie.After-in-form)
@@ -77,14 +56,14 @@ pub cell-end-spec : {M : Type 1} → statement M
 cell-end-spec =
     tie.close
     (tie.spec
-    size-requires
+    (λ c κs. search needs)
     add-end
     returns
-    mul-in-form
-    sub-in-form
-    part-in-form-start
-    part-in-form-end
-    shared-slice-read-in-form
-    in-form-requires
+    (λ c. search needs)
+    (λ c. search needs)
+    (λ c. search needs)
+    (λ c. search needs)
+    (λ c. search needs)
+    (λ c κs. search needs)
     returns-2
     returns-3)

@@ -75,9 +75,6 @@ array-write-possible c = omega (arith, deep (c .before .before .before))
 add-d : tie.Need-add-d Inv-loop μ-loop
 add-d c = omega (arith, deep (c .before .before .before))
 
-loop-less : tie.Need-loop-less Inv-loop μ-loop
-loop-less c = omega arith
-
 loop-again : tie.Need-loop-again Inv-loop μ-loop
 loop-again c =
     let j = c .before .before .before in
@@ -86,9 +83,6 @@ loop-again c =
       length-set (l .possible) (l .d) 0 ∙ l .inv .1,
       rw (stack-set (l .possible) (l .d) 0 (omega (arith, deep j, l .inv .1))) (judging-letter (l .inv .2) (early j) _ (letter-entry c)),
     )
-
-enum-known-entry : tie.Need-enum-known-entry Inv-loop μ-loop
-enum-known-entry c = search needs
 
 returns : tie.Need-returns Inv-loop μ-loop
 returns c =
@@ -104,9 +98,6 @@ small c =
     let j = c .before .before .before .before .before in
     let l = j .before .loop in
     omega (arith, judging-small (l .possible) (l .d) (l .inv .2) (omega arith), j .before .before .before .pre .most)
-
-sub-y : tie.Need-sub-y Inv-loop μ-loop
-sub-y c = search needs
 
 array-read-y : tie.Need-array-read-y Inv-loop μ-loop
 array-read-y c = omega (arith, deep (c .before .before .before .before .before))
@@ -127,9 +118,6 @@ returns-2 c =
     judging-broken (judging-popped (l .possible) (l .d) (l .inv .2) (omega arith)) (early j) _ (pair-entry (k .before)) _
     (c .if2 .taken) (c .before .cell-end .ensures)
 
-possible-starts-requires : tie.Need-possible-starts-requires Inv-loop μ-loop
-possible-starts-requires c κs = search needs
-
 cast-possible : tie.Need-cast-possible Inv-loop μ-loop
 cast-possible c =
     let k = c .before .before .before in
@@ -144,12 +132,6 @@ cast-possible c =
 array-write-possible-2 : tie.Need-array-write-possible-2 Inv-loop μ-loop
 array-write-possible-2 c = omega (arith, deep (c .before .before .before .before .before .before .before .before))
 
-sub-d : tie.Need-sub-d Inv-loop μ-loop
-sub-d c = search needs
-
-loop-less-2 : tie.Need-loop-less-2 Inv-loop μ-loop
-loop-less-2 c = omega arith
-
 loop-again-2 : tie.Need-loop-again-2 Inv-loop μ-loop
 loop-again-2 c =
     let k = c .before .before .before in
@@ -163,17 +145,11 @@ loop-again-2 c =
           (c .before .if2 .left) (c .before .before .cell-end .ensures)),
     )
 
-enum-told-2 : tie.Need-enum-told-2 Inv-loop μ-loop
-enum-told-2 c = search needs
-
 returns-3 : tie.Need-returns-3 Inv-loop μ-loop
 returns-3 c =
     let j = c .before .before .before .before in
     let l = j .before .loop in
     judging-no-one (l .inv .2) (early j) _ (within-entry (c .before)) (omega (arith, length-stack (λ (k : ℕ). getD (l .possible) k 0) (l .d)))
-
-loop-less-3 : tie.Need-loop-less-3 Inv-loop μ-loop
-loop-less-3 c = omega arith
 
 loop-again-3 : tie.Need-loop-again-3 Inv-loop μ-loop
 loop-again-3 c =
@@ -183,9 +159,6 @@ loop-again-3 c =
       l .inv .1,
       judging-within (l .inv .2) (early j) _ (within-entry (c .before)) (omega (arith, length-stack (λ (k : ℕ). getD (l .possible) k 0) (l .d))),
     )
-
-enum-told-3 : tie.Need-enum-told-3 Inv-loop μ-loop
-enum-told-3 c = search needs
 
 returns-4 : tie.Need-returns-4 Inv-loop μ-loop
 returns-4 c =
@@ -219,26 +192,26 @@ judged-end-spec =
     enum-told
     array-write-possible
     add-d
-    loop-less
+    (λ c. omega arith)
     loop-again
-    enum-known-entry
+    (λ c. search needs)
     returns
-    sub-y
+    (λ c. search needs)
     array-read-y
     array-read-x
     cell-end-requires
     returns-2
-    possible-starts-requires
+    (λ c κs. search needs)
     cast-possible
     array-write-possible-2
-    sub-d
-    loop-less-2
+    (λ c. search needs)
+    (λ c. omega arith)
     loop-again-2
-    enum-told-2
+    (λ c. search needs)
     returns-3
-    loop-less-3
+    (λ c. omega arith)
     loop-again-3
-    enum-told-3
+    (λ c. search needs)
     returns-4
     returns-5
     returns-6)

@@ -10,12 +10,6 @@ use borrow.Author.Needs.{needs}
 use Rattle.watcher.proofs.walk.letter_answer.Statement.{statement}
 use Rattle.watcher.proofs.walk.letter_answer.Tie as tie
 
-occurs-requires : tie.Need-occurs-requires
-occurs-requires c κs = search needs
-
-add-result : tie.Need-add-result
-add-result c = search needs
-
 returns : tie.Need-returns
 returns c =
     let a = c .before .before .args in
@@ -28,4 +22,4 @@ returns-2 c =
     (λ h. let q = c .before .occurs .ensures .1 h in impossible cc))
 
 pub letter-answer-spec : {M : Type 1} → statement M
-letter-answer-spec = tie.close (tie.spec occurs-requires add-result returns returns-2)
+letter-answer-spec = tie.close (tie.spec (λ c κs. search needs) (λ c. search needs) returns returns-2)

@@ -36,9 +36,6 @@ entry-in-requires c κs = omega (arith, stepping-long (c .before .before .loop .
 add-i : tie.Need-add-i Inv-loop μ-loop
 add-i c = omega (arith, stepping-long (c .before .before .before .loop .inv))
 
-enum-known-entry : tie.Need-enum-known-entry Inv-loop μ-loop
-enum-known-entry c = search needs
-
 -- the entry of this turn is a letter, and there is room for it
 letter-here : (c : tie.After-known-told Inv-loop μ-loop)
     → entryIn (c .before .before .before .before .before .before .loop .state) (c .before .before .before .before .before .before .loop .i)
@@ -54,35 +51,14 @@ letter-room c =
     let r = stepping-room x (j .loop-test .taken) (c .before .entry .given .0 .0) (letter-here c) in
     (omega (arith, r, x .laid .answers-long), omega (arith, r, x .laid .base-long))
 
-letter-answer-requires : tie.Need-letter-answer-requires Inv-loop μ-loop
-letter-answer-requires c κs = search needs
-
-mul-answers : tie.Need-mul-answers Inv-loop μ-loop
-mul-answers c = search needs
-
 slice-write-answers : tie.Need-slice-write-answers Inv-loop μ-loop
 slice-write-answers c = letter-room (c .before) .0
-
-mul-base : tie.Need-mul-base Inv-loop μ-loop
-mul-base c = search needs
 
 slice-read-base : tie.Need-slice-read-base Inv-loop μ-loop
 slice-read-base c = omega (arith, letter-room (c .before .before) .1)
 
-add-base : tie.Need-add-base Inv-loop μ-loop
-add-base c = search needs
-
-mul-base-2 : tie.Need-mul-base-2 Inv-loop μ-loop
-mul-base-2 c = search needs
-
 slice-write-base : tie.Need-slice-write-base Inv-loop μ-loop
 slice-write-base c = letter-room (c .before .before) .1
-
-add-d : tie.Need-add-d Inv-loop μ-loop
-add-d c = search needs
-
-loop-less : tie.Need-loop-less Inv-loop μ-loop
-loop-less c = search needs
 
 loop-again : tie.Need-loop-again Inv-loop μ-loop
 loop-again c =
@@ -90,9 +66,6 @@ loop-again c =
     let j = a .before .before .before .before .before in
     stepping-letter (j .before .loop .inv) (j .loop-test .taken) (a .before .entry .given .0 .0) (letter-here a)
     (c .before .letter-answer .result) (c .before .letter-answer .ensures)
-
-enum-known-entry-2 : tie.Need-enum-known-entry-2 Inv-loop μ-loop
-enum-known-entry-2 c = search needs
 
 -- a restriction, and its operand is there
 within-here : (c : tie.After-known-told2 Inv-loop μ-loop)
@@ -108,26 +81,8 @@ within-one c =
 sub-within-answer : tie.Need-sub-within-answer Inv-loop μ-loop
 sub-within-answer c = omega (arith, within-one c)
 
-mul-within-answer : tie.Need-mul-within-answer Inv-loop μ-loop
-mul-within-answer c = search needs
-
-slice-read-within-answer : tie.Need-slice-read-within-answer Inv-loop μ-loop
-slice-read-within-answer c = search needs
-
-within-answer-requires : tie.Need-within-answer-requires Inv-loop μ-loop
-within-answer-requires c κs = search needs
-
 sub-answers : tie.Need-sub-answers Inv-loop μ-loop
 sub-answers c = omega (arith, within-one (c .before .before))
-
-mul-answers-2 : tie.Need-mul-answers-2 Inv-loop μ-loop
-mul-answers-2 c = search needs
-
-slice-write-answers-2 : tie.Need-slice-write-answers-2 Inv-loop μ-loop
-slice-write-answers-2 c = search needs
-
-loop-less-2 : tie.Need-loop-less-2 Inv-loop μ-loop
-loop-less-2 c = search needs
 
 loop-again-2 : tie.Need-loop-again-2 Inv-loop μ-loop
 loop-again-2 c =
@@ -135,9 +90,6 @@ loop-again-2 c =
     let j = a .before .before .before .before .before in
     stepping-within (j .before .loop .inv) (j .loop-test .taken) (a .before .entry2 .given .0 .0) (within-here a)
     (c .within-answer .result) (c .within-answer .ensures)
-
-enum-known-entry-3 : tie.Need-enum-known-entry-3 Inv-loop μ-loop
-enum-known-entry-3 c = search needs
 
 -- an operator, and its operands are there, the right one at d - 1
 pair-here : (c : tie.After-known-told3 Inv-loop μ-loop)
@@ -170,9 +122,6 @@ pair-requires c κs =
     stepping-ready (pair-stands a) (j .loop-test .taken) (a .before .entry3 .given .0 .0) (pair-here a) (omega (arith, pair-two a))
     (j .before .before .before .before .before .before .before .pre .0 .range)
 
-loop-less-3 : tie.Need-loop-less-3 Inv-loop μ-loop
-loop-less-3 c = search needs
-
 loop-again-3 : tie.Need-loop-again-3 Inv-loop μ-loop
 loop-again-3 c =
     let p = c .before .before .before .before .before .before .before .before in
@@ -184,34 +133,13 @@ loop-again-3 c =
 enum-told : tie.Need-enum-told Inv-loop μ-loop
 enum-told c = search needs
 
-loop-less-4 : tie.Need-loop-less-4 Inv-loop μ-loop
-loop-less-4 c = search needs
-
 loop-again-4 : tie.Need-loop-again-4 Inv-loop μ-loop
 loop-again-4 c =
     let j = c .before .before .before .before in
     absurd (stepping-wrong (j .before .loop .inv) (j .loop-test .taken) (sym (c .before .before .entry-in .ensures) ∙ c .enum-told .given .1))
 
-add-state : tie.Need-add-state Inv-loop μ-loop
-add-state c = search needs
-
 slice-write-state : tie.Need-slice-write-state Inv-loop μ-loop
 slice-write-state c = omega (arith, stepping-long (c .before .loop .inv))
-
-slice-read-result : tie.Need-slice-read-result Inv-loop μ-loop
-slice-read-result c = search needs
-
-same-length : tie.Need-same-length Inv-loop μ-loop
-same-length c = search needs
-
-same-length-2 : tie.Need-same-length-2 Inv-loop μ-loop
-same-length-2 c = search needs
-
-same-length-3 : tie.Need-same-length-3 Inv-loop μ-loop
-same-length-3 c = search needs
-
-same-length-4 : tie.Need-same-length-4 Inv-loop μ-loop
-same-length-4 c = search needs
 
 returns : tie.Need-returns Inv-loop μ-loop
 returns c = (stepping-end (c .before .before .loop .inv) (c .before .loop-test .left), c .before .before .loop .inv .laid .first)
@@ -227,41 +155,41 @@ step-over-spec =
     loop-holds
     entry-in-requires
     add-i
-    enum-known-entry
-    letter-answer-requires
-    mul-answers
+    (λ c. search needs)
+    (λ c κs. search needs)
+    (λ c. search needs)
     slice-write-answers
-    mul-base
+    (λ c. search needs)
     slice-read-base
-    add-base
-    mul-base-2
+    (λ c. search needs)
+    (λ c. search needs)
     slice-write-base
-    add-d
-    loop-less
+    (λ c. search needs)
+    (λ c. search needs)
     loop-again
-    enum-known-entry-2
+    (λ c. search needs)
     sub-within-answer
-    mul-within-answer
-    slice-read-within-answer
-    within-answer-requires
+    (λ c. search needs)
+    (λ c. search needs)
+    (λ c κs. search needs)
     sub-answers
-    mul-answers-2
-    slice-write-answers-2
-    loop-less-2
+    (λ c. search needs)
+    (λ c. search needs)
+    (λ c. search needs)
     loop-again-2
-    enum-known-entry-3
+    (λ c. search needs)
     sub-d
     pair-requires
-    loop-less-3
+    (λ c. search needs)
     loop-again-3
     enum-told
-    loop-less-4
+    (λ c. search needs)
     loop-again-4
-    add-state
+    (λ c. search needs)
     slice-write-state
-    slice-read-result
-    same-length
-    same-length-2
-    same-length-3
-    same-length-4
+    (λ c. search needs)
+    (λ c. search needs)
+    (λ c. search needs)
+    (λ c. search needs)
+    (λ c. search needs)
     returns)

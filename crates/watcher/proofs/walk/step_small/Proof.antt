@@ -5,22 +5,10 @@ use borrow.Author.Needs.{needs}
 use Rattle.watcher.proofs.walk.step_small.Statement.{statement}
 use Rattle.watcher.proofs.walk.step_small.Tie as tie
 
-slice-aggregate-step-over : tie.Need-slice-aggregate-step-over
-slice-aggregate-step-over c = search needs
-
-slice-aggregate-step-over-2 : tie.Need-slice-aggregate-step-over-2
-slice-aggregate-step-over-2 c = search needs
-
-slice-aggregate-step-over-3 : tie.Need-slice-aggregate-step-over-3
-slice-aggregate-step-over-3 c = search needs
-
 step-over-requires : tie.Need-step-over-requires
 step-over-requires c κs =
     let z = c .before .before .before .before .before in
     (z .pre .0, record { deep = omega (arith, z .pre .1); based = refl; many = omega (arith, z .pre .1); most = omega arith; first = refl })
-
-same-length : tie.Need-same-length
-same-length c = search needs
 
 returns : tie.Need-returns
 returns c = c .before .before .before .before .before .step-over .ensures .0
@@ -29,9 +17,9 @@ pub step-small-spec : {M : Type 1} → statement M
 step-small-spec =
     tie.close
     (tie.spec
-    slice-aggregate-step-over
-    slice-aggregate-step-over-2
-    slice-aggregate-step-over-3
+    (λ c. search needs)
+    (λ c. search needs)
+    (λ c. search needs)
     step-over-requires
-    same-length
+    (λ c. search needs)
     returns)

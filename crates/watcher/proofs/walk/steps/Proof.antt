@@ -18,27 +18,6 @@ abbrev μ-loop : tie.MeasureT-loop
 loop-holds : tie.Need-loop-holds Inv-loop μ-loop
 loop-holds c = (feeds-start (c .before .before .before .before .pre), refl, refl, refl, refl)
 
-mul-step-over : tie.Need-mul-step-over Inv-loop μ-loop
-mul-step-over c = search needs
-
-shared-slice-read-step-over : tie.Need-shared-slice-read-step-over Inv-loop μ-loop
-shared-slice-read-step-over c = search needs
-
-mul-step-over-2 : tie.Need-mul-step-over-2 Inv-loop μ-loop
-mul-step-over-2 c = search needs
-
-shared-slice-read-step-over-2 : tie.Need-shared-slice-read-step-over-2 Inv-loop μ-loop
-shared-slice-read-step-over-2 c = search needs
-
-slice-aggregate-step-over : tie.Need-slice-aggregate-step-over Inv-loop μ-loop
-slice-aggregate-step-over c = search needs
-
-slice-aggregate-step-over-2 : tie.Need-slice-aggregate-step-over-2 Inv-loop μ-loop
-slice-aggregate-step-over-2 c = search needs
-
-slice-aggregate-step-over-3 : tie.Need-slice-aggregate-step-over-3 Inv-loop μ-loop
-slice-aggregate-step-over-3 c = search needs
-
 step-over-requires : tie.Need-step-over-requires Inv-loop μ-loop
 step-over-requires c κs =
     let j = c .before .before .before .before .before .before in
@@ -46,18 +25,6 @@ step-over-requires c κs =
     let r = j .before .before .before .before .before .before .pre in
     let ready = feeds-ready r (i .0) (j .loop-test .taken) in
     (ready, large-stack ready (i .1) (i .2) (i .3) (i .4))
-
-mul-answers : tie.Need-mul-answers Inv-loop μ-loop
-mul-answers c = search needs
-
-slice-write-answers : tie.Need-slice-write-answers Inv-loop μ-loop
-slice-write-answers c = search needs
-
-add-i : tie.Need-add-i Inv-loop μ-loop
-add-i c = search needs
-
-loop-less : tie.Need-loop-less Inv-loop μ-loop
-loop-less c = search needs
 
 loop-again : tie.Need-loop-again Inv-loop μ-loop
 loop-again c =
@@ -73,12 +40,6 @@ loop-again c =
       p .step-over .ensures .1,
     )
 
-same-length : tie.Need-same-length Inv-loop μ-loop
-same-length c = search needs
-
-same-length-2 : tie.Need-same-length-2 Inv-loop μ-loop
-same-length-2 c = search needs
-
 returns : tie.Need-returns Inv-loop μ-loop
 returns c = feeds-end (c .before .before .before .before .before .before .pre) (c .before .loop .inv .0) (c .loop-test .left)
 
@@ -89,19 +50,19 @@ steps-spec =
     Inv-loop
     μ-loop
     loop-holds
-    mul-step-over
-    shared-slice-read-step-over
-    mul-step-over-2
-    shared-slice-read-step-over-2
-    slice-aggregate-step-over
-    slice-aggregate-step-over-2
-    slice-aggregate-step-over-3
+    (λ c. search needs)
+    (λ c. search needs)
+    (λ c. search needs)
+    (λ c. search needs)
+    (λ c. search needs)
+    (λ c. search needs)
+    (λ c. search needs)
     step-over-requires
-    mul-answers
-    slice-write-answers
-    add-i
-    loop-less
+    (λ c. search needs)
+    (λ c. search needs)
+    (λ c. search needs)
+    (λ c. search needs)
     loop-again
-    same-length
-    same-length-2
+    (λ c. search needs)
+    (λ c. search needs)
     returns)

@@ -7,11 +7,8 @@ use Rattle.watching.proofs.batch.far_from_full.Tie as tie
 returns : tie.Need-returns
 returns c = λ k. impossible cc
 
-returns-2 : tie.Need-returns-2
-returns-2 c = search needs
-
 returns-3 : tie.Need-returns-3
 returns-3 c = λ k. impossible cc
 
 pub far-from-full-spec : {M : Type 1} → statement M
-far-from-full-spec = tie.close (tie.spec returns returns-2 returns-3)
+far-from-full-spec = tie.close (tie.spec returns (λ c. search needs) returns-3)

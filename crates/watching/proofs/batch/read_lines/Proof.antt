@@ -20,9 +20,6 @@ loop-holds c = let s = c .before .before .before in gathering-start (s .pre .0) 
 find-line-requires : tie.Need-find-line-requires Inv-loop μ-loop
 find-line-requires c κs = c .before .loop .inv .inside
 
-enum-told : tie.Need-enum-told Inv-loop μ-loop
-enum-told c = search needs
-
 same-length : tie.Need-same-length Inv-loop μ-loop
 same-length c =
     let l = c .before .before .before .before in
@@ -36,41 +33,17 @@ same-length-2 c =
 returns : tie.Need-returns Inv-loop μ-loop
 returns c = gathering-end (c .before .before .before .before .loop .inv)
 
-enum-known-t : tie.Need-enum-known-t Inv-loop μ-loop
-enum-known-t c = search needs
-
-mul-ticks : tie.Need-mul-ticks Inv-loop μ-loop
-mul-ticks c = search needs
-
-slice-write-ticks : tie.Need-slice-write-ticks Inv-loop μ-loop
-slice-write-ticks c = search needs
-
-mul-events : tie.Need-mul-events Inv-loop μ-loop
-mul-events c = search needs
-
-slice-write-events : tie.Need-slice-write-events Inv-loop μ-loop
-slice-write-events c = search needs
-
-add-n : tie.Need-add-n Inv-loop μ-loop
-add-n c = search needs
-
 sub-least : tie.Need-sub-least Inv-loop μ-loop
 sub-least c =
     let k = c .before in
     let found = subst (FoundAt _ _) (k .t .given .1) (k .before .before .find-line .ensures) in
     omega (arith, found .ends .place)
 
-least-requires : tie.Need-least-requires Inv-loop μ-loop
-least-requires c κs = search needs
-
 add-at : tie.Need-add-at Inv-loop μ-loop
 add-at c =
     let k = c .before .before in
     let found = subst (FoundAt _ _) (k .t .given .1) (k .before .before .find-line .ensures) in
     omega (arith, found .ends .inside)
-
-loop-less : tie.Need-loop-less Inv-loop μ-loop
-loop-less c = search needs
 
 loop-again : tie.Need-loop-again Inv-loop μ-loop
 loop-again c =
@@ -96,20 +69,20 @@ read-lines-spec =
     μ-loop
     loop-holds
     find-line-requires
-    enum-told
+    (λ c. search needs)
     same-length
     same-length-2
     returns
-    enum-known-t
-    mul-ticks
-    slice-write-ticks
-    mul-events
-    slice-write-events
-    add-n
+    (λ c. search needs)
+    (λ c. search needs)
+    (λ c. search needs)
+    (λ c. search needs)
+    (λ c. search needs)
+    (λ c. search needs)
     sub-least
-    least-requires
+    (λ c κs. search needs)
     add-at
-    loop-less
+    (λ c. search needs)
     loop-again
     same-length-3
     same-length-4

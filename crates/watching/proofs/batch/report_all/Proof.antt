@@ -17,15 +17,6 @@ abbrev μ-loop : tie.MeasureT-loop
 loop-holds : tie.Need-loop-holds Inv-loop μ-loop
 loop-holds c = reporting-start (c .before .before .before .pre)
 
-mul-report : tie.Need-mul-report Inv-loop μ-loop
-mul-report c = search needs
-
-shared-slice-read-report : tie.Need-shared-slice-read-report Inv-loop μ-loop
-shared-slice-read-report c = search needs
-
-mul-report-2 : tie.Need-mul-report-2 Inv-loop μ-loop
-mul-report-2 c = search needs
-
 shared-slice-read-report-2 : tie.Need-shared-slice-read-report-2 Inv-loop μ-loop
 shared-slice-read-report-2 c =
     let l = c .before .before .before in
@@ -41,9 +32,6 @@ part-report-start c =
     let l = c .before .before .before in
     omega (arith, l .loop .inv .writes .fits, writes-length (l .loop .inv .writes))
 
-part-report-end : tie.Need-part-report-end Inv-loop μ-loop
-part-report-end c = search needs
-
 report-requires : tie.Need-report-requires Inv-loop μ-loop
 report-requires c κs =
     let i = c .before .before .before in
@@ -57,12 +45,6 @@ add-written c =
     let l = i .before in
     let next = reporting-more (l .before .before .before .before .pre) (l .loop .inv) (i .loop-test .taken) (p .report .ensures) in
     omega (arith, next .writes .fits)
-
-add-i : tie.Need-add-i Inv-loop μ-loop
-add-i c = search needs
-
-loop-less : tie.Need-loop-less Inv-loop μ-loop
-loop-less c = search needs
 
 loop-again : tie.Need-loop-again Inv-loop μ-loop
 loop-again c =
@@ -84,17 +66,17 @@ report-all-spec =
     Inv-loop
     μ-loop
     loop-holds
-    mul-report
-    shared-slice-read-report
-    mul-report-2
+    (λ c. search needs)
+    (λ c. search needs)
+    (λ c. search needs)
     shared-slice-read-report-2
     sub-report
     part-report-start
-    part-report-end
+    (λ c. search needs)
     report-requires
     add-written
-    add-i
-    loop-less
+    (λ c. search needs)
+    (λ c. search needs)
     loop-again
     same-length
     returns)

@@ -5,21 +5,6 @@ use borrow.Author.Needs.{needs}
 use Rattle.watching.proofs.pieces.hold_rest.Statement.{statement}
 use Rattle.watching.proofs.pieces.hold_rest.Tie as tie
 
-sub-append : tie.Need-sub-append
-sub-append c = search needs
-
-part-append-start : tie.Need-part-append-start
-part-append-start c = search needs
-
-part-append-end : tie.Need-part-append-end
-part-append-end c = search needs
-
-append-requires : tie.Need-append-requires
-append-requires c κs = search needs
-
-same-length : tie.Need-same-length
-same-length c = search needs
-
 returns : tie.Need-returns
 returns c =
     let a = c .before .before in
@@ -34,4 +19,4 @@ returns c =
 pub hold-rest-spec : {M : Type 1} → statement M
 hold-rest-spec =
     tie.close
-    (tie.spec sub-append part-append-start part-append-end append-requires same-length returns)
+    (tie.spec (λ c. search needs) (λ c. search needs) (λ c. search needs) (λ c κs. search needs) (λ c. search needs) returns)

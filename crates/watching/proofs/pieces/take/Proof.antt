@@ -9,23 +9,11 @@ use borrow.Author.Needs.{needs}
 use Rattle.watching.proofs.pieces.take.Statement.{statement}
 use Rattle.watching.proofs.pieces.take.Tie as tie
 
-least-requires : tie.Need-least-requires
-least-requires c κs = search needs
-
 returns : tie.Need-returns
 returns c =
     let k = c .before in
     let s = k .before .before .before .before .before in
     chunk-unroomed (k .least .ensures) (s .pre) (c .if1 .taken)
-
-line-end-requires : tie.Need-line-end-requires
-line-end-requires c κs = search needs
-
-append-requires : tie.Need-append-requires
-append-requires c κs = search needs
-
-same-length : tie.Need-same-length
-same-length c = search needs
 
 returns-2 : tie.Need-returns-2
 returns-2 c =
@@ -35,24 +23,6 @@ returns-2 c =
     let s = k .before .before .before .before .before in
     let whole = a .before .before .if2 .taken in
     chunk-unended (k .least .ensures) (s .pre) (e .before .if1 .left) (omega (arith, e .line-end .ensures, whole)) whole (a .append .ensures)
-
-take-joined-requires : tie.Need-take-joined-requires
-take-joined-requires c κs = search needs
-
-take-lines-requires : tie.Need-take-lines-requires
-take-lines-requires c κs = search needs
-
-sub-if3 : tie.Need-sub-if3
-sub-if3 c = search needs
-
-same-length-2 : tie.Need-same-length-2
-same-length-2 c = search needs
-
-same-length-3 : tie.Need-same-length-3
-same-length-3 c = search needs
-
-same-length-4 : tie.Need-same-length-4
-same-length-4 c = search needs
 
 -- the lines taken, from the beginning of the chunk
 lines-progress : (c : tie.After-take-lines)
@@ -74,15 +44,6 @@ hold-rest-requires c κs =
     let s = l .before .before .before .before .before .before .before .before .before .before .before .before .before .before .before .before .before .before .before in
     (l .take-lines .ensures .progress .inside, s .pre)
 
-same-length-5 : tie.Need-same-length-5
-same-length-5 c = search needs
-
-same-length-6 : tie.Need-same-length-6
-same-length-6 c = search needs
-
-same-length-7 : tie.Need-same-length-7
-same-length-7 c = search needs
-
 returns-4 : tie.Need-returns-4
 returns-4 c =
     let h = c .before .before in
@@ -98,21 +59,21 @@ pub take-spec : {M : Type 1} → statement M
 take-spec =
     tie.close
     (tie.spec
-    least-requires
+    (λ c κs. search needs)
     returns
-    line-end-requires
-    append-requires
-    same-length
+    (λ c κs. search needs)
+    (λ c κs. search needs)
+    (λ c. search needs)
     returns-2
-    take-joined-requires
-    take-lines-requires
-    sub-if3
-    same-length-2
-    same-length-3
-    same-length-4
+    (λ c κs. search needs)
+    (λ c κs. search needs)
+    (λ c. search needs)
+    (λ c. search needs)
+    (λ c. search needs)
+    (λ c. search needs)
     returns-3
     hold-rest-requires
-    same-length-5
-    same-length-6
-    same-length-7
+    (λ c. search needs)
+    (λ c. search needs)
+    (λ c. search needs)
     returns-4)

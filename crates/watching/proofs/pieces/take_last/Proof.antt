@@ -6,35 +6,11 @@ use borrow.Author.Needs.{needs}
 use Rattle.watching.proofs.pieces.take_last.Statement.{statement}
 use Rattle.watching.proofs.pieces.take_last.Tie as tie
 
-least-requires : tie.Need-least-requires
-least-requires c κs = search needs
-
-least-requires-2 : tie.Need-least-requires-2
-least-requires-2 c κs = search needs
-
 returns : tie.Need-returns
 returns c =
     let k = c .before .before .before in
     last-none (rw (k .before .least .ensures) at (k .least2 .ensures))
     (c .before .before .if1 .taken) (c .if2 .taken)
-
-sub-take-line : tie.Need-sub-take-line
-sub-take-line c = search needs
-
-part-take-line-start : tie.Need-part-take-line-start
-part-take-line-start c = search needs
-
-part-take-line-end : tie.Need-part-take-line-end
-part-take-line-end c = search needs
-
-take-line-requires : tie.Need-take-line-requires
-take-line-requires c κs = search needs
-
-same-length : tie.Need-same-length
-same-length c = search needs
-
-same-length-2 : tie.Need-same-length-2
-same-length-2 c = search needs
 
 returns-2 : tie.Need-returns-2
 returns-2 c =
@@ -50,13 +26,13 @@ pub take-last-spec : {M : Type 1} → statement M
 take-last-spec =
     tie.close
     (tie.spec
-    least-requires
-    least-requires-2
+    (λ c κs. search needs)
+    (λ c κs. search needs)
     returns
-    sub-take-line
-    part-take-line-start
-    part-take-line-end
-    take-line-requires
-    same-length
-    same-length-2
+    (λ c. search needs)
+    (λ c. search needs)
+    (λ c. search needs)
+    (λ c κs. search needs)
+    (λ c. search needs)
+    (λ c. search needs)
     returns-2)

@@ -5,18 +5,6 @@ use borrow.Author.Needs.{needs}
 use Rattle.watching.proofs.pieces.take_lines.Statement.{statement}
 use Rattle.watching.proofs.pieces.take_lines.Tie as tie
 
-take-batches-requires : tie.Need-take-batches-requires
-take-batches-requires c κs = search needs
-
-take-each-requires : tie.Need-take-each-requires
-take-each-requires c κs = search needs
-
-same-length : tie.Need-same-length
-same-length c = search needs
-
-same-length-2 : tie.Need-same-length-2
-same-length-2 c = search needs
-
 returns : tie.Need-returns
 returns c =
     let each = c .before .before .before .before in
@@ -28,4 +16,4 @@ returns c =
 
 pub take-lines-spec : {M : Type 1} → statement M
 take-lines-spec =
-    tie.close (tie.spec take-batches-requires take-each-requires same-length same-length-2 returns)
+    tie.close (tie.spec (λ c κs. search needs) (λ c κs. search needs) (λ c. search needs) (λ c. search needs) returns)
