@@ -1,5 +1,5 @@
 -- A sound file holds patterns, each where its contents say; and a walk over them, a pattern at a time. Assumes nothing.
-use Prim.Native.Nat.{ℕ, suc, _+_, _*_, _≤_, _<_}
+use Prim.Native.Nat.{ℕ, suc, _+_, _≤_, _<_}
 use mathlib.Core.Path.{_≡_, refl, sym, ap, ap₂, subst, _∙_}
 use mathlib.Core.List.{List, [], _∷_, _++_, append-assoc}
 use mathlib.Core.Option.{none}
@@ -120,13 +120,12 @@ module _ {f : List ℕ} {es : List Pattern} (h : Holds f es) where
       let k = bodies-placed f (h .names) (sizes es) (bodiesOf es) (h .parts) .1 i inside in
       let same : take (bodyBytes n) (drop (bodyAt (sizes es) i) f) ≡ encode argumentBytes e =
       k .1 ∙ ap (λ (l : List Pattern). bodyOf (sizes l) (bodiesOf l) i) q ∙ body-there front e back in
-      let long : length (encode argumentBytes e) ≡ 5 * size e = length-encode argumentBytes e in
       let count : n ≡ size e = ap (λ (l : List Pattern). getD (sizes l) i 0) q ∙ size-there front e back in
       record {
         from = bodyAt (sizes es) i;
         long = bodyBytes n;
         place = k .0;
-        within = part-within f (bodyAt (sizes es) i) (bodyBytes n) (omega (arith, size-pos e)) (ap length same ∙ omega (arith, long));
+        within = part-within f (bodyAt (sizes es) i) (bodyBytes n) (omega (arith, size-pos e)) (ap length same ∙ omega (arith, length-encode argumentBytes e));
         body = record { bodied = bodied-at front e back (subst (All (Bodied argumentBytes)) q (h .bodied)); same = same };
       }
 

@@ -6,7 +6,7 @@ use native.Mathlib.Omega.{arith}
 use lib.ListN.{length, take, drop, take-append-drop, drop-of-length-le}
 use borrow.Rule.Slice.PartMut.{midOf, putMid, same-len-mid, post-is, mid-len, drop-put}
 use Rattle.rules.proofs.Impossible.{impossible}
-use Rattle.rules.specs.Limits.{argumentBytes}
+use Rattle.rules.specs.Limits.{argumentBytes, mostPatterns}
 use Rattle.rules.specs.Pattern.{Pattern}
 use Rattle.detector.specs.Memory.{fresh}
 use Rattle.refusal.specs.declared.Refusal.{Refusal}
@@ -91,7 +91,7 @@ pub summing-start : {f : List ℕ} {es : List Pattern} (count : ℕ) → count �
 summing-start {f} {es} count q h = record { patterns = es; rest = es; ahead = ahead-start count q h; sum = omega arith; small = omega arith }
 
 module _ {f : List ℕ} {count words i : ℕ} (x : Summing f count words i) where
-  pub summing-few : words ≤ 8003 * 16
+  pub summing-few : words ≤ 8003 * mostPatterns
   summing-few = omega (arith, x .small, ahead-few (x .ahead))
 
   pub summing-end : count ≤ i → RoomSummed f words

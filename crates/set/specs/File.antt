@@ -1,4 +1,4 @@
--- A set opened from a pattern file (document 01: 4, 5, 6, 7 of the file, then 8). Assumes nothing: these are definitions.
+-- A set opened from a pattern file (docs/RULES.md, "Sets" and "Refusals": 4, 5, 6, 7 of the file, then 8). Assumes nothing: these are definitions.
 use mathlib.Core.Path.{_≡_}
 use mathlib.Core.List.{List, [], _∷_, _++_}
 use Prim.Native.Nat.{ℕ, _+_, _≤_, _<_}

@@ -1,5 +1,5 @@
--- Several watchers in one slice (document 01, "Room and the watcher's state", last paragraph): each state is a part of the slice, beginning where
--- the previous ends. Assumes nothing: these are definitions.
+-- The tick of a set (docs/RULES.md, "Sets"): each state is a part of the slice, beginning where the one before it ends.
+-- Assumes nothing: these are definitions.
 use mathlib.Core.Path.{_≡_}
 use mathlib.Core.List.{List, [], _∷_, _++_}
 use Prim.Native.Nat.{ℕ, suc, _≤_, _<_}

@@ -45,7 +45,8 @@ pub fn open(file: &[u8], states: &mut [u64]) -> Opening
     }
 }
 
-// Takes a tick with its word of events in each of `count` states: an answer for each, start + 1 or 0. If any state is refused, none moves.
+// Takes a tick with its word of events in each of `count` states, and writes an answer for each: start + 1, or 0 for none.
+// If any state is refused, none moves.
 pub fn tick(states: &mut [u64], count: u64, t: u64, events: u32, answers: &mut [u64]) -> SetTicking
     ensures { λ r. ⌜ SetAnswers count (now (states .entry)) (now (answers .entry)) t events (now (states .exit)) (now (answers .exit)) r ⌝ }
 {
@@ -130,7 +131,7 @@ fn open_at(file: &[u8], i: usize, state: &mut [u64])
     }
 }
 
-// Judges n states, each once, and keeps where each ends, after the first's beginning.
+// Judges each of n states once. Place k of the ends is where state k begins, and place n is where the last one ends.
 fn judge(states: &[u64], n: usize, t: u64, ends: &mut [usize]) -> SetTicking
     requires { ⌜ EndsReady n (now ends) ⌝ }
     ensures { λ r. ⌜ Judged n (now (states .entry)) t (now (ends .exit)) r ⌝ }
