@@ -18,7 +18,7 @@ use Rattle.body.specs.Bytes.{Bytes}
 use Rattle.body.specs.Entry.{entriesBytes, entriesBy, entryAt, entries}
 use Rattle.body.specs.Postfix.{postfix, encode, Bodied}
 use Rattle.body.specs.Check.{scan, sized, verdict, checkOf}
-use Rattle.body.specs.Machine.{Machine, run, eval}
+use Rattle.body.specs.inner.Machine.{Machine, run, eval}
 use Rattle.body.specs.Claim.{BodyOf, AcceptedExactly, OnePattern, forest, RefusedLowest, LowestRefused, Counted, RefusedSize, Answered}
 use Rattle.body.proofs.Entries.{length-entries, entries-bytes, entries-fit, read-fits, bytes-entries}
 use Rattle.body.proofs.Sizes.{sized-whole, whole-count, whole-sized, sound-parts, body-parts, size-part, check-by, check-size}

@@ -5,7 +5,7 @@ use Rattle.rules.specs.Pattern.{Pattern, event, pair, within}
 use Rattle.body.specs.declared.Entry.{Entry}
 use Rattle.body.specs.declared.Entry.the-variants.{Pair, Within}
 use Rattle.body.specs.Postfix.{postfix}
-use Rattle.body.specs.Machine.{Machine, step, run, eval}
+use Rattle.body.specs.inner.Machine.{Machine, step, run, eval}
 
 module _ (M : Machine) where
   pub run-postfix : (e : Pattern) (rest : List Entry) (st : List (M .X)) (g : M .G)

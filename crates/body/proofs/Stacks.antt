@@ -6,7 +6,7 @@ use native.Mathlib.Numerals.{add-one}
 use native.Mathlib.Omega.{arith}
 use lib.ListN.{length, getD, set}
 use lib.Seq.{getD-set-same, getD-set-other}
-use Rattle.body.specs.Stack.{stackBy, stack}
+use Rattle.body.specs.inner.Stack.{stackBy, stack}
 
 module _ {X : Type 0} where
   -- only the places below d count

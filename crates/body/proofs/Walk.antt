@@ -17,7 +17,7 @@ use Rattle.body.specs.declared.Depth.the-variants.{Lacks, To}
 use Rattle.body.specs.declared.BodyCheck.the-variants.{Sound}
 use Rattle.body.specs.Entry.{entryAt, entriesBy, entries}
 use Rattle.body.specs.Check.{onDepth, depthOf, scan, checkOf}
-use Rattle.body.specs.Machine.{Machine, step, run}
+use Rattle.body.specs.inner.Machine.{Machine, step, run}
 use Rattle.body.proofs.Sizes.{sized-whole, sound-parts}
 use Rattle.body.proofs.Scan.{left-suc, left-zero, scan-turn}
 

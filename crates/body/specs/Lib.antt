@@ -2,6 +2,5 @@ pub mod Bytes
 pub mod Entry
 pub mod Postfix
 pub mod Check
-pub mod Machine
-pub mod Stack
 pub mod Claim
+pub mod inner

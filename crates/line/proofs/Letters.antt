@@ -16,7 +16,7 @@ use Rattle.text.specs.Characters.{letterOf}
 use Rattle.decimal.proofs.Branches.{either-way, either-is}
 use Rattle.text.proofs.Bytes.{letter-byte, byte-letter}
 use Rattle.line.specs.Lines.{letterIf, lettersFrom, lettersOf}
-use Rattle.line.specs.Scan.{wordFrom, wordOf}
+use Rattle.line.specs.inner.Scan.{wordFrom, wordOf}
 
 letter-on : (w n : ℕ) → bit w n ≡ 1 → letterIf w n ≡ letterByte n ∷ []
 letter-on w n b = simp (eq-eqb (bit w n) 1 b)

@@ -11,8 +11,8 @@ use Rattle.text.specs.Characters.{digitOf}
 use Rattle.decimal.proofs.Branches.{either-way, either-is}
 use Rattle.text.proofs.Bytes.{digit-byte, byte-digit}
 use Rattle.decimal.specs.Decimal.{decimal}
-use Rattle.line.specs.Scan.{frontOf, grow}
-use Rattle.line.specs.Scan.Front.{none, number}
+use Rattle.line.specs.inner.Scan.{frontOf, grow}
+use Rattle.line.specs.inner.Scan.Front.{none, number}
 use Rattle.decimal.proofs.Decimals.{decimal-one, decimal-next}
 
 module _ (c : ℕ) (s : List ℕ) where

@@ -9,9 +9,9 @@ use Rattle.decimal.proofs.Branches.{either-is}
 use Rattle.line.specs.Lines.{lettersOf}
 use Rattle.decimal.specs.Decimal.{decimal}
 use Rattle.line.specs.Answer.{LineOf}
-use Rattle.line.specs.Scan.{Front, frontOf, wordOf, withWord, afterFront, parse}
-use Rattle.line.specs.Scan.Front.{none, number}
-use Rattle.line.specs.Scan.Parsed.{malformed, line}
+use Rattle.line.specs.inner.Scan.{Front, frontOf, wordOf, withWord, afterFront, parse}
+use Rattle.line.specs.inner.Scan.Front.{none, number}
+use Rattle.line.specs.inner.Scan.Parsed.{malformed, line}
 use Rattle.line.proofs.Numbers.{front-decimal, front-sound}
 use Rattle.line.proofs.Letters.{word-letters, letters-word}
 

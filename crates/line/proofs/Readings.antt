@@ -12,10 +12,10 @@ use Rattle.rules.specs.Limits.{letters, ticks}
 use Rattle.text.specs.Characters.{letterOf, digitOf}
 use Rattle.line.specs.Lines.{mostLine}
 use Rattle.line.specs.Answer.{LineOf, IsTick, IsRange}
-use Rattle.line.specs.Scan.{frontOf, grow, wordFrom, wordOf, withWord, afterFront, parse}
-use Rattle.line.specs.Scan.Front.{none, number}
-use Rattle.line.specs.Scan.Parsed.{malformed}
-use Rattle.line.specs.Number.{IsNumber}
+use Rattle.line.specs.inner.Scan.{frontOf, grow, wordFrom, wordOf, withWord, afterFront, parse}
+use Rattle.line.specs.inner.Scan.Front.{none, number}
+use Rattle.line.specs.inner.Scan.Parsed.{malformed}
+use Rattle.line.specs.inner.Number.{IsNumber}
 use Rattle.line.proofs.Numbers.{grow-digit, grow-other, front-other, front-zero, front-grow}
 use Rattle.line.proofs.Letters.{word-more, word-low, word-other, word-fits, bit-shifted}
 use Rattle.line.proofs.Parses.{word-some, line-parsed}

@@ -17,8 +17,8 @@ use Rattle.line.specs.Answer.{LineOf, IsRange, RefusedLine, LineReadOf}
 use Rattle.line.specs.Answer.RefusedLine.{long, malformed, range}
 use Rattle.line.specs.Answer.RefusedWriting.{room}
 use Rattle.line.specs.Claim.{OneReading, OneWriting, OneTick, ReadBack, LineExactly, RangeExactly, WrittenFits, WrittenLacks, AtMostWritten}
-use Rattle.line.specs.Scan.{Parsed, parse}
-use Rattle.line.specs.Scan.Parsed.{malformed as none, line}
+use Rattle.line.specs.inner.Scan.{Parsed, parse}
+use Rattle.line.specs.inner.Scan.Parsed.{malformed as none, line}
 use Rattle.line.specs.declared.LineRead.{LineRead}
 use Rattle.line.specs.declared.LineRead.the-variants.{Tick, Refused as Unread}
 use Rattle.line.specs.declared.LineWritten.{LineWritten}

@@ -1,5 +1,4 @@
 pub mod Lines
 pub mod Answer
 pub mod Claim
-pub mod Scan
-pub mod Number
+pub mod inner

@@ -6,8 +6,8 @@ ghost use native.Mathlib.Decide.{decLt};
 ghost use lib.ListN.{length, drop};
 ghost use Rattle.rules.specs.Decisions.{pick};
 ghost use Rattle.rules.specs.Limits.{ticks};
-ghost use Rattle.line.specs.Scan.{wordOf};
-ghost use Rattle.line.specs.Number.{NumberOf};
+ghost use Rattle.line.specs.inner.Scan.{wordOf};
+ghost use Rattle.line.specs.inner.Number.{NumberOf};
 
 // The number of event types.
 const LETTERS: u8 = 32;

@@ -10,7 +10,7 @@ use lib.Seq.{getD-take, getD-drop, ext-getD, getD-set-same, getD-set-other}
 use Rattle.rules.specs.Instances.{Instances}
 use Rattle.plain.specs.Row.{Exactly}
 use Rattle.plain.specs.Rows.{rowsOf}
-use Rattle.plain.specs.Fill.{Seen, Masked, Filled}
+use Rattle.plain.specs.inner.Fill.{Seen, Masked, Filled}
 
 pub length-rows : (l : List ℕ) (a : ℕ) → a * 64 + 64 ≤ length l → length (rowsOf l a) ≡ 64
 length-rows l a h = omega (arith, length-take 64 (drop (a * 64) l), length-drop (a * 64) l)

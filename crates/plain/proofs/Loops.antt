@@ -15,14 +15,14 @@ use Rattle.rules.specs.Instances.{Instances, Occurs, Rule, Short, Has}
 use Rattle.body.specs.declared.Entry.{Entry}
 use Rattle.body.specs.declared.Entry.the-variants.{Letter, Pair, Within, Wrong}
 use Rattle.body.specs.Entry.{entriesBy, entryAt, entries}
-use Rattle.body.specs.Stack.{stack, stackBy}
+use Rattle.body.specs.inner.Stack.{stack, stackBy}
 use Rattle.body.specs.Claim.{BodyOf}
 use Rattle.body.proofs.Stacks.{stack-pop, stack-pop2, stack-set, stack-set2}
 use Rattle.body.proofs.Walk.{Rest, rest-letter, rest-pair, rest-within, rest-wrong}
 use Rattle.body.proofs.Scan.{left-zero}
 use Rattle.body.proofs.Bodies.{entries-encode}
 use Rattle.plain.specs.Rows.{Shown, rowsOf, worded, parts, Written}
-use Rattle.plain.specs.Fill.{Filled}
+use Rattle.plain.specs.inner.Fill.{Filled}
 use Rattle.plain.proofs.Fills.{same-rows}
 use Rattle.plain.proofs.Steps.{Same, letter-inside, filled-same, filled-rule, filled-short}
 use Rattle.plain.proofs.Ends.{ends, ends-letter, ends-pair, ends-within, ends-whole, Stands, stands-more, stands-one}

@@ -8,7 +8,7 @@ use lib.Bits.{bitOr}
 use lib.ListN.{getD, set, length, length-set}
 use lib.Seq.{getD-set-same, getD-set-other}
 use Rattle.plain.specs.Row.{Exactly}
-use Rattle.plain.specs.Fill.{Before, Seen}
+use Rattle.plain.specs.inner.Fill.{Before, Seen}
 use Rattle.plain.proofs.Sets.{before-none, before-more}
 
 -- the masks up to place i are made, and `sum` is the last of them

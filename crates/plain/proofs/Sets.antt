@@ -15,7 +15,7 @@ use Rattle.rules.specs.Bits.{bit, On}
 use Rattle.rules.specs.Instances.{Rule}
 use Rattle.plain.specs.Rows.{Shown}
 use Rattle.plain.specs.Row.{Exactly, IsLatest}
-use Rattle.plain.specs.Fill.{Before, Lesser}
+use Rattle.plain.specs.inner.Fill.{Before, Lesser}
 use Rattle.rules.proofs.Bits.{bit-lt, bit-or, bit-and, bit-shr, bit-shl, bit-shl-low, bit-zero, bit-mask, bit-mask-high, has-lt, bit-one, bit-one-same}
 
 -- no start

@@ -13,7 +13,7 @@ use Rattle.rules.specs.Bits.{bit, On}
 use Rattle.rules.specs.Instances.{Instances, Occurs, Rule, Short}
 use Rattle.rules.proofs.Bits.{bit-zero}
 use Rattle.plain.specs.Rows.{Shown, rowsOf, worded}
-use Rattle.plain.specs.Fill.{Filled}
+use Rattle.plain.specs.inner.Fill.{Filled}
 
 -- two sets with the same instances
 abbrev pub Same : Instances → Instances → Type 0

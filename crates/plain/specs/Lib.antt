@@ -1,5 +1,5 @@
 pub mod Row
 pub mod Rows
-pub mod Fill
 pub mod Answer
 pub mod Claim
+pub mod inner

@@ -14,7 +14,7 @@ ghost use Rattle.rules.specs.Instances.{Occurs, Rule, Short};
 ghost use Rattle.plain.specs.Row.{Exactly, IsLatest};
 ghost use Rattle.plain.specs.Rows.{Shown, rowsOf, worded};
 ghost use Rattle.plain.specs.Answer.{Answers, RowsAfter, Ready};
-ghost use Rattle.plain.specs.Fill.{Before, Seen, Lesser, Masked, PairReady, Filled};
+ghost use Rattle.plain.specs.inner.Fill.{Before, Seen, Lesser, Masked, PairReady, Filled};
 
 // The rows of an entry, one a tick.
 const ROWS: usize = MOST_WORDS;

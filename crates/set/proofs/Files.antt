@@ -24,7 +24,7 @@ use Rattle.file.proofs.Found.{bodies-first, body-valid}
 use Rattle.file.proofs.Theorem.{bodies-placed}
 use Rattle.set.specs.Set.{Few}
 use Rattle.set.specs.File.{sizes, bodiesOf, Holds}
-use Rattle.set.specs.Calls.{PatternAt}
+use Rattle.set.specs.inner.Calls.{PatternAt}
 
 no-words : (l : List ℕ) → length l ≡ 0 → l ≡ []
 no-words [] h = refl

@@ -13,9 +13,9 @@ use Rattle.rules.specs.Limits.{mostPatterns, ticks}
 use Rattle.rules.proofs.Decisions.{pick-yes, pick-no}
 use Rattle.refusal.specs.declared.Refusal.the-variants.{State, Late}
 use Rattle.watcher.specs.State.{nextOf, InForm}
-use Rattle.watcher.specs.Walk.{formed, extent}
+use Rattle.watcher.specs.inner.Walk.{formed, extent}
 use Rattle.set.specs.Set.{Past, none, more, Fault, broken, below}
-use Rattle.set.specs.Calls.{lateAfter, PartsReady, EndsReady}
+use Rattle.set.specs.inner.Calls.{lateAfter, PartsReady, EndsReady}
 use Rattle.watcher.proofs.States.{next-word}
 use Rattle.watcher.proofs.Judges.{formed-exactly, extent-formed, extent-broken}
 use Rattle.set.proofs.Parts.{beyond-is, extent-le}

@@ -23,7 +23,7 @@ use Rattle.watcher.specs.State.{stateOf, roomOf}
 use Rattle.watcher.specs.Answer.{RoomAnswers, OpenAnswers, OpenRefused, unsound, short}
 use Rattle.watcher.proofs.Cells.{room-small}
 use Rattle.set.specs.File.{roomsOf, statesOf, Holds, IsSetOpened}
-use Rattle.set.specs.Calls.{RoomSummed, PatternAt, HasPattern, RoomAt, HasRoom, OpenedAt, OpenReady}
+use Rattle.set.specs.inner.Calls.{RoomSummed, PatternAt, HasPattern, RoomAt, HasRoom, OpenedAt, OpenReady}
 use Rattle.set.proofs.Lent.{put-front}
 use Rattle.set.proofs.Files.{Ahead, Next, ahead-start, ahead-few, ahead-end, ahead-more}
 

@@ -9,7 +9,7 @@ use native.Mathlib.Omega.{arith}
 use lib.ListN.{length, take, drop, length-append}
 use lib.Seq.{take-at, drop-at}
 use Rattle.watcher.specs.State.{nextOf, stateOf, InForm}
-use Rattle.watcher.specs.Walk.{formed, extent}
+use Rattle.watcher.specs.inner.Walk.{formed, extent}
 use Rattle.watcher.proofs.States.{next-word}
 use Rattle.watcher.proofs.Judges.{formed-exactly, in-form-extent, in-form-cells}
 

@@ -11,7 +11,7 @@ use Rattle.rules.specs.Limits.{ticks}
 use Rattle.refusal.specs.declared.Refusal.{Refusal}
 use Rattle.refusal.specs.declared.Refusal.the-variants.{State, Late}
 use Rattle.watcher.specs.State.{nextOf, stateOf, InForm}
-use Rattle.watcher.specs.Walk.{judged}
+use Rattle.watcher.specs.inner.Walk.{judged}
 use Rattle.set.specs.Set.{Past, none, more, Fault, broken, below, SetTicked}
 use Rattle.set.specs.Set as Sets
 use Rattle.watcher.proofs.States.{next-word}

@@ -9,9 +9,9 @@ use lib.ListN.{length, getD, take, drop, set, length-set, length-drop, take-appe
 use lib.Seq.{drop-set-lt, take-suc-set}
 use borrow.Rule.Slice.PartMut.{midOf, putMid, same-len-mid, post-is, mid-len, drop-put}
 use Rattle.watcher.specs.Answer.{TickReady, IsTicked}
-use Rattle.watcher.specs.Walk.{extent}
+use Rattle.watcher.specs.inner.Walk.{extent}
 use Rattle.set.specs.Set.{SetTicked, none, more, Few, IsSetTicked}
-use Rattle.set.specs.Calls.{PartReady, Ready, Done}
+use Rattle.set.specs.inner.Calls.{PartReady, Ready, Done}
 use Rattle.watcher.proofs.Calls.{tick-ready}
 use Rattle.set.proofs.Lent.{put-front}
 use Rattle.set.proofs.Parts.{extent-le, alone-formed, alone-next, alone-beyond}

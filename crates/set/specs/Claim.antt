@@ -1,4 +1,4 @@
--- What is claimed of sets: no second outcome, and demand 3 for each pattern. Assumes nothing: these are definitions.
+-- What is claimed of sets: each pattern is watched as if alone, so its reports are the rules' own; and no second outcome meets a promise. Assumes nothing: these are definitions.
 use mathlib.Core.Path.{_≡_}
 use mathlib.Core.List.{List, [], _∷_, _++_}
 use Prim.Native.Nat.{ℕ, _≤_, _<_}

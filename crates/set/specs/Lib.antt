@@ -1,4 +1,4 @@
 pub mod Set
 pub mod File
-pub mod Calls
 pub mod Claim
+pub mod inner

@@ -9,8 +9,8 @@ use watcher::Opening;
 ghost use mathlib.Core.Path.{_≡_};
 ghost use Rattle.set.specs.Set.{SetAnswers};
 ghost use Rattle.set.specs.File.{SetRoomAnswers, SetOpenAnswers, IsSetOpened};
-ghost use Rattle.set.specs.Calls.{SoundFile, RoomSummed, HasPattern, RoomAt, OpenReady, HasRoom, OpenedAt};
-ghost use Rattle.set.specs.Calls.{lateAfter, EndsReady, Judged, Ready, Done};
+ghost use Rattle.set.specs.inner.Calls.{SoundFile, RoomSummed, HasPattern, RoomAt, OpenReady, HasRoom, OpenedAt};
+ghost use Rattle.set.specs.inner.Calls.{lateAfter, EndsReady, Judged, Ready, Done};
 
 // What a set's tick answers.
 pub enum SetTicking {

@@ -13,10 +13,10 @@ use Rattle.decimal.proofs.Decimals.{decimal-one, decimal-next}
 use Rattle.text.specs.Render.{numbers, opByte, render}
 use Rattle.text.specs.Grammar.{Begins}
 use Rattle.text.specs.Characters.{letterOf, digitOf}
-use Rattle.text.specs.Machine.{Frame, State, Move, grows, step, afterSign}
-use Rattle.text.specs.Machine.Frame.{first, second}
-use Rattle.text.specs.Machine.State.{want, have, limit, number}
-use Rattle.text.specs.Machine.Move.{none, to}
+use Rattle.text.specs.inner.Machine.{Frame, State, Move, grows, step, afterSign}
+use Rattle.text.specs.inner.Machine.Frame.{first, second}
+use Rattle.text.specs.inner.Machine.State.{want, have, limit, number}
+use Rattle.text.specs.inner.Machine.Move.{none, to}
 use Rattle.decimal.proofs.Branches.{by-test}
 use Rattle.text.proofs.Bytes.{byte-letter, sign-cases, byte-digit, grows-true}
 use Rattle.text.proofs.Complete.{cap-step, digit-step, shut-step}

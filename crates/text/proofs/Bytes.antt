@@ -10,8 +10,8 @@ use Rattle.rules.specs.declared.Op.the-variants.{Either, Both, Without, Chain}
 use Rattle.rules.specs.Limits.{letters}
 use Rattle.text.specs.Render.{numbers, letterByte, opByte}
 use Rattle.text.specs.Characters.{letterOf, digitOf}
-use Rattle.text.specs.Machine.{Sign, signOf, grows}
-use Rattle.text.specs.Machine.Sign.{oper, cap, other}
+use Rattle.text.specs.inner.Machine.{Sign, signOf, grows}
+use Rattle.text.specs.inner.Machine.Sign.{oper, cap, other}
 use Rattle.decimal.proofs.Branches.{either-way, either-is}
 use Rattle.text.proofs.Numbers.{grows-over, grows-zero, grows-other}
 

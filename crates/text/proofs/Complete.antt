@@ -12,11 +12,11 @@ use Rattle.decimal.proofs.Decimals.{tens, decimal-one, decimal-last}
 use Rattle.text.specs.Render.{numbers, mostDigits, letterByte, opByte, render}
 use Rattle.text.specs.Grammar.{TextOf}
 use Rattle.text.specs.Characters.{letterOf, digitOf}
-use Rattle.text.specs.Machine.{Frame, State, Move, signOf, grows, step, afterSign, follow, run}
-use Rattle.text.specs.Machine.Frame.{first, second}
-use Rattle.text.specs.Machine.State.{want, have, limit, number}
-use Rattle.text.specs.Machine.Outcome.{whole}
-use Rattle.text.specs.Machine.Move.{to}
+use Rattle.text.specs.inner.Machine.{Frame, State, Move, signOf, grows, step, afterSign, follow, run}
+use Rattle.text.specs.inner.Machine.Frame.{first, second}
+use Rattle.text.specs.inner.Machine.State.{want, have, limit, number}
+use Rattle.text.specs.inner.Machine.Outcome.{whole}
+use Rattle.text.specs.inner.Machine.Move.{to}
 use Rattle.decimal.proofs.Branches.{either-way}
 use Rattle.text.proofs.Numbers.{grows-on}
 use Rattle.text.proofs.Bytes.{letter-byte, sign-byte, digit-byte}

@@ -23,9 +23,9 @@ use Rattle.text.specs.Answer.{IsText, ReadingOf, PrintingOf}
 use Rattle.text.specs.Answer.RefusedText.{long, syntax, many, room}
 use Rattle.text.specs.Answer.RefusedBody.{unsound, room as text-room}
 use Rattle.text.specs.Claim.{OneReading, OnePrinting}
-use Rattle.text.specs.Machine.{Outcome, run}
-use Rattle.text.specs.Machine.State.{want}
-use Rattle.text.specs.Machine.Outcome.{whole, stopped}
+use Rattle.text.specs.inner.Machine.{Outcome, run}
+use Rattle.text.specs.inner.Machine.State.{want}
+use Rattle.text.specs.inner.Machine.Outcome.{whole, stopped}
 use Rattle.text.specs.declared.Reading.{Reading}
 use Rattle.text.specs.declared.Reading.the-variants.{Read, Refused as Unread}
 use Rattle.text.specs.declared.Printing.{Printing}

@@ -14,7 +14,7 @@ use Rattle.body.specs.declared.Entry.the-variants.{Letter, Pair, Within}
 use Rattle.body.specs.Entry.{entryBytes, entriesBytes}
 use Rattle.body.specs.Postfix.{postfix, encode}
 use Rattle.body.proofs.Bodies.{length-encode}
-use Rattle.text.specs.Helpers.{Written, Rest, by, upTo, join, restEncode, restSize, entryLength}
+use Rattle.text.specs.inner.Helpers.{Written, Rest, by, upTo, join, restEncode, restSize, entryLength}
 
 -- a run of stores past the end changes nothing
 pub sets-out : (l : List ℕ) (i : ℕ) (vs : List ℕ) → length l ≤ i → sets l i vs ≡ l

@@ -10,9 +10,9 @@ use borrow.Author.Tests.{lt-ltb, le-ltb, ne-eqb}
 use Rattle.rules.specs.Pattern.{Pattern, within}
 use Rattle.text.specs.Render.{numbers}
 use Rattle.text.specs.Characters.{digitOf}
-use Rattle.text.specs.Machine.{Frame, grows, run, shut}
-use Rattle.text.specs.Machine.State.{limit, number}
-use Rattle.text.specs.Helpers.{IsValue, IsBad}
+use Rattle.text.specs.inner.Machine.{Frame, grows, run, shut}
+use Rattle.text.specs.inner.Machine.State.{limit, number}
+use Rattle.text.specs.inner.Helpers.{IsValue, IsBad}
 use Rattle.decimal.proofs.Branches.{by-test, either-way}
 use Rattle.text.proofs.Steps.{run-to, run-no, run-end, number-shut, number-end}
 

@@ -13,7 +13,7 @@ use Rattle.body.specs.Check.{checkOf}
 use Rattle.body.proofs.Bodies.{sound-pattern, entries-encode}
 use Rattle.text.specs.Render.{mostPrinted, render}
 use Rattle.text.specs.Answer.{IsBody, IsTextRoom, IsPrinted}
-use Rattle.text.specs.Helpers.{entryLength, Ends, TreeReady, IsTree, TreeWritten}
+use Rattle.text.specs.inner.Helpers.{entryLength, Ends, TreeReady, IsTree, TreeWritten}
 use Rattle.text.proofs.Lengths.{most-printed}
 
 module _ (b : List ℕ) (w : Bytes b) (p : checkOf argumentBytes b ≡ Sound) where

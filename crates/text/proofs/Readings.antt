@@ -10,10 +10,10 @@ use Rattle.rules.specs.Limits.{argumentBytes, mostEntries, mostText}
 use Rattle.body.specs.Postfix.{encode}
 use Rattle.body.proofs.Bodies.{length-encode}
 use Rattle.text.specs.Answer.{IsText, IsSyntax, IsMany, IsRoom, IsRead}
-use Rattle.text.specs.Machine.{run}
-use Rattle.text.specs.Machine.State.{have}
-use Rattle.text.specs.Machine.Outcome.{whole}
-use Rattle.text.specs.Helpers.{entryLength, bodyLength, IsExpression, NoExpression}
+use Rattle.text.specs.inner.Machine.{run}
+use Rattle.text.specs.inner.Machine.State.{have}
+use Rattle.text.specs.inner.Machine.Outcome.{whole}
+use Rattle.text.specs.inner.Helpers.{entryLength, bodyLength, IsExpression, NoExpression}
 use Rattle.text.proofs.Steps.{run-no}
 use Rattle.text.proofs.Sound.{broken, text-of}
 

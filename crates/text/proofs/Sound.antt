@@ -10,10 +10,10 @@ use Rattle.rules.proofs.Impossible.{impossible}
 use Rattle.rules.specs.Pattern.{Pattern, Proper}
 use Rattle.text.specs.Render.{numbers, render}
 use Rattle.text.specs.Grammar.{TextOf, Begins, Broken}
-use Rattle.text.specs.Machine.{State, Outcome, Move, step, ended, follow, run}
-use Rattle.text.specs.Machine.State.{want, have, limit, number}
-use Rattle.text.specs.Machine.Outcome.{whole, stopped}
-use Rattle.text.specs.Machine.Move.{none, to}
+use Rattle.text.specs.inner.Machine.{State, Outcome, Move, step, ended, follow, run}
+use Rattle.text.specs.inner.Machine.State.{want, have, limit, number}
+use Rattle.text.specs.inner.Machine.Outcome.{whole, stopped}
+use Rattle.text.specs.inner.Machine.Move.{none, to}
 use Rattle.decimal.proofs.Branches.{either-way}
 use Rattle.text.proofs.Complete.{on, complete-whole}
 use Rattle.text.proofs.Begun.{sofar, Fine, leads-to, begins-state}

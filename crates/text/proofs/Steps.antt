@@ -9,11 +9,11 @@ use borrow.Author.Tests.{eq-eqb, ne-eqb}
 use Rattle.rules.proofs.Lists.{drop-at}
 use Rattle.rules.specs.declared.Op.{Op}
 use Rattle.rules.specs.Pattern.{Pattern, pair, within}
-use Rattle.text.specs.Machine.{Frame, State, Move, grows, step, ended, follow, run, shut}
-use Rattle.text.specs.Machine.Frame.{second}
-use Rattle.text.specs.Machine.State.{have, number}
-use Rattle.text.specs.Machine.Outcome.{stopped}
-use Rattle.text.specs.Machine.Move.{none, to}
+use Rattle.text.specs.inner.Machine.{Frame, State, Move, grows, step, ended, follow, run, shut}
+use Rattle.text.specs.inner.Machine.Frame.{second}
+use Rattle.text.specs.inner.Machine.State.{have, number}
+use Rattle.text.specs.inner.Machine.Outcome.{stopped}
+use Rattle.text.specs.inner.Machine.Move.{none, to}
 use Rattle.decimal.proofs.Branches.{either-way, either-is}
 
 run-cons : (σ : State) (c : ℕ) (t l : List ℕ) → l ≡ c ∷ t → run σ l ≡ follow (step σ c) (λ τ. run τ t) l

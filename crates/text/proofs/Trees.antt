@@ -18,7 +18,7 @@ use Rattle.decimal.specs.Decimal.{decimal}
 use Rattle.decimal.specs.Backward.{Backward}
 use Rattle.decimal.proofs.Backwards.{before-back}
 use Rattle.text.specs.Render.{numbers, letterByte, opByte, render}
-use Rattle.text.specs.Helpers.{Ends, TreeReady, IsTree, TreeWritten}
+use Rattle.text.specs.inner.Helpers.{Ends, TreeReady, IsTree, TreeWritten}
 
 -- entries by index, where they are a list: its first part, its last entry, and their number
 module _ (f : ℕ → Entry) where

@@ -13,11 +13,11 @@ use Rattle.body.specs.declared.Entry.the-variants.{Pair}
 use Rattle.body.specs.Bytes.{bytesOf}
 use Rattle.body.specs.Entry.{entryBytes}
 use Rattle.text.specs.Characters.{letterOf}
-use Rattle.text.specs.Machine.{Frame, Sign, signOf, signNumber, run, shut, afterSign}
-use Rattle.text.specs.Machine.Frame.{first, second}
-use Rattle.text.specs.Machine.State.{want, have, limit}
-use Rattle.text.specs.Machine.Sign.{oper, cap, other}
-use Rattle.text.specs.Helpers.{Written, by, upTo, join, restEncode, IsValue, IsBad, IsExpression, NoExpression, IsTail, NoTail}
+use Rattle.text.specs.inner.Machine.{Frame, Sign, signOf, signNumber, run, shut, afterSign}
+use Rattle.text.specs.inner.Machine.Frame.{first, second}
+use Rattle.text.specs.inner.Machine.State.{want, have, limit}
+use Rattle.text.specs.inner.Machine.Sign.{oper, cap, other}
+use Rattle.text.specs.inner.Helpers.{Written, by, upTo, join, restEncode, IsValue, IsBad, IsExpression, NoExpression, IsTail, NoTail}
 use Rattle.text.proofs.Steps.{run-to, run-no, run-end, shut-to, shut-no, shut-end, second-shut}
 use Rattle.text.proofs.Entries.{encode-event, written-after, encode-join, size-join}
 

@@ -3,5 +3,4 @@ pub mod Characters
 pub mod Grammar
 pub mod Answer
 pub mod Claim
-pub mod Machine
-pub mod Helpers
+pub mod inner

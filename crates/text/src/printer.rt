@@ -6,7 +6,7 @@ ghost use mathlib.Core.Path.{_≡_};
 ghost use Prim.Native.Nat.{_<_};
 ghost use Rattle.rules.specs.Limits.{letters};
 ghost use Rattle.text.specs.Render.{letterByte, opByte};
-ghost use Rattle.text.specs.Helpers.{TreeReady, TreeWritten};
+ghost use Rattle.text.specs.inner.Helpers.{TreeReady, TreeWritten};
 
 // The bytes of the longest text that a body has.
 pub(crate) const MOST_PRINTED: usize = 807;

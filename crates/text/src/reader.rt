@@ -9,8 +9,8 @@ ghost use Prim.Native.Nat.{_≤_};
 ghost use lib.ListN.{length};
 ghost use Rattle.rules.specs.Limits.{argumentBytes};
 ghost use Rattle.body.specs.Bytes.{bytesOf};
-ghost use Rattle.text.specs.Machine.{signOf, signNumber};
-ghost use Rattle.text.specs.Helpers.{DecimalAt, Written, ExpressionAt, TailAt};
+ghost use Rattle.text.specs.inner.Machine.{signOf, signNumber};
+ghost use Rattle.text.specs.inner.Helpers.{DecimalAt, Written, ExpressionAt, TailAt};
 
 // The number of event types, as `letter` counts them.
 pub(crate) const LETTERS: u8 = 32;

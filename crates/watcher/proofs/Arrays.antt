@@ -9,7 +9,7 @@ use borrow.Rule.Slice.PartMut.{midOf}
 use Rattle.rules.specs.declared.Op.{Op}
 use Rattle.body.specs.declared.Entry.{Entry}
 use Rattle.body.specs.declared.Entry.the-variants.{Letter, Pair}
-use Rattle.body.specs.Stack.{stack, stackBy}
+use Rattle.body.specs.inner.Stack.{stack, stackBy}
 use Rattle.body.proofs.Stacks.{stack-pop2, stack-set, stack-set2}
 use Rattle.rules.specs.Limits.{mostEntries}
 use Rattle.watcher.proofs.Piles.{total, Piled, piled-low, piled-letter, piled-two}

@@ -13,8 +13,8 @@ use Rattle.refusal.specs.declared.Refusal.the-variants.{State, Range, Late}
 use Rattle.watcher.specs.declared.Ticking.the-variants.{Window, Nothing}
 use Rattle.watcher.specs.State.{nextOf, cells, stateOf, InForm}
 use Rattle.watcher.specs.Answer.{TickReady, IsTicked, TickRefused, over, broken, below, TickAnswers}
-use Rattle.watcher.specs.Walk.{Value, Cells, tickM, formed, ticked, lastAnswer, answerOf, wordsAfter}
-use Rattle.watcher.specs.Step.{StepsReady, StepsDone}
+use Rattle.watcher.specs.inner.Walk.{Value, Cells, tickM, formed, ticked, lastAnswer, answerOf, wordsAfter}
+use Rattle.watcher.specs.inner.Step.{StepsReady, StepsDone}
 use Rattle.watcher.proofs.Entries.{run-tree}
 use Rattle.watcher.proofs.States.{state-parts, next-word, entries-read, cells-from, front-words}
 use Rattle.watcher.proofs.Judges.{formed-exactly}

@@ -19,13 +19,13 @@ use Rattle.body.specs.declared.Entry.{Entry}
 use Rattle.body.specs.declared.Entry.the-variants.{Letter, Pair, Within, Wrong}
 use Rattle.body.specs.Entry.{opOf, entryOf, entriesBy}
 use Rattle.body.specs.Postfix.{postfix}
-use Rattle.body.specs.Machine.{Machine, step, run, eval}
+use Rattle.body.specs.inner.Machine.{Machine, step, run, eval}
 use Rattle.body.proofs.Entries.{Fits, entry-fits}
 use Rattle.body.proofs.Trees.{length-postfix, proper-fits}
 use Rattle.body.proofs.Machines.{run-postfix}
 use Rattle.body.proofs.Walk.{run-turn}
 use Rattle.watcher.specs.State.{countOf, wordOf, entryWords}
-use Rattle.watcher.specs.Walk.{entryIn}
+use Rattle.watcher.specs.inner.Walk.{entryIn}
 
 -- an entry that fits, and breaks no rule by itself
 abbrev pub Fitting : Entry → Type 0

@@ -20,7 +20,7 @@ use Rattle.watcher.specs.State.{nextOf}
 use Rattle.watcher.specs.declared.Ticking.the-variants.{Window, Nothing}
 use Rattle.watcher.specs.declared.Feeding.the-variants.{Fed, Refused}
 use Rattle.watcher.specs.Answer.{IsTicked}
-use Rattle.watcher.specs.Walk.{answersFed, wordsFed}
+use Rattle.watcher.specs.inner.Walk.{answersFed, wordsFed}
 use Rattle.watcher.specs.Feed.{paired, AllTicked, none, more, firstFault, IsFed, FeedRefused, uneven, short, broken, faulty}
 use Rattle.watcher.specs.Claim.{FedWatched, FedAgrees, OneFeeding, AllRight, Watched, window, nothing}
 use Rattle.watcher.proofs.States.{next-word}

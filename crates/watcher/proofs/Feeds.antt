@@ -21,9 +21,9 @@ use Rattle.refusal.specs.declared.Refusal.the-variants.{State, Range, Late}
 use Rattle.watcher.specs.declared.Feeding.the-variants.{Fed, Refused}
 use Rattle.watcher.specs.State.{nextOf, InForm}
 use Rattle.watcher.specs.Answer.{IsTicked}
-use Rattle.watcher.specs.Walk.{formed, answerOf, wordsAfter, answersFed, wordsFed}
+use Rattle.watcher.specs.inner.Walk.{formed, answerOf, wordsAfter, answersFed, wordsFed}
 use Rattle.watcher.specs.Feed.{paired, AllTicked, none, more, firstFault, IsFed, FeedRefused, broken, faulty}
-use Rattle.watcher.specs.Step.{StepsReady, StepsDone, FeedReady, FeedDone}
+use Rattle.watcher.specs.inner.Step.{StepsReady, StepsDone, FeedReady, FeedDone}
 use Rattle.watcher.proofs.States.{next-word}
 use Rattle.watcher.proofs.Judges.{formed-exactly}
 use Rattle.watcher.proofs.Calls.{walked-as-ticked}

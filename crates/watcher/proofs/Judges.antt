@@ -25,14 +25,14 @@ use Rattle.body.specs.declared.Entry.the-variants.{Letter, Pair, Within, Wrong}
 use Rattle.body.specs.Entry.{entriesBy}
 use Rattle.body.specs.Postfix.{postfix}
 use Rattle.body.specs.Check.{scan}
-use Rattle.body.specs.Machine.{step, run, eval}
+use Rattle.body.specs.inner.Machine.{step, run, eval}
 use Rattle.body.proofs.Entries.{entries-fit}
 use Rattle.body.proofs.Bodies.{length-by}
 use Rattle.body.proofs.Trees.{size-pos, length-postfix, proper-fits, fits-proper, scan-tree}
 use Rattle.cell.specs.Cell.{cellWords, possible}
 use Rattle.cell.specs.Form.{cellFits}
 use Rattle.watcher.specs.State.{header, countOf, nextOf, entryWords, cells, stateOf, roomOf, InForm}
-use Rattle.watcher.specs.Walk.{entryIn, judgeCell, onAhead, judgeM, isSome, isNone, judged, formed, endBy, extent}
+use Rattle.watcher.specs.inner.Walk.{entryIn, judgeCell, onAhead, judgeM, isSome, isNone, judged, formed, endBy, extent}
 use Rattle.watcher.specs.Claim.{FormedExactly, ExtentExactly}
 use Rattle.watcher.proofs.Entries.{Fitting, words-entries, read-fits, run-tree}
 use Rattle.watcher.proofs.States.{state-parts, length-state, count-word, next-word, entries-read, cells-from, state-long}

@@ -21,7 +21,7 @@ use Rattle.body.specs.Bytes.{Bytes}
 use Rattle.body.specs.Entry.{entryAt, entriesBy, entries}
 use Rattle.body.specs.Postfix.{postfix}
 use Rattle.body.specs.Check.{checkOf}
-use Rattle.body.specs.Machine.{run, eval}
+use Rattle.body.specs.inner.Machine.{run, eval}
 use Rattle.body.specs.Claim.{BodyOf}
 use Rattle.body.proofs.Sizes.{whole-count}
 use Rattle.body.proofs.Bodies.{length-encode, entries-encode, sound-pattern, length-by, length-read}
@@ -30,7 +30,7 @@ use Rattle.cell.specs.Cell.{cellWords}
 use Rattle.watcher.specs.declared.Needed.the-variants as Needs
 use Rattle.watcher.specs.State.{wordOf, entryWords, cells, cellRoom, roomOf, stateOf}
 use Rattle.watcher.specs.Answer.{RoomAnswers, IsOpened, OpenRefused, short}
-use Rattle.watcher.specs.Walk.{roomM, cellsNeeded, wordsNeeded, wordsOpened}
+use Rattle.watcher.specs.inner.Walk.{roomM, cellsNeeded, wordsNeeded, wordsOpened}
 use Rattle.watcher.proofs.Entries.{run-tree, length-words}
 use Rattle.watcher.proofs.States.{state-parts}
 use Rattle.watcher.proofs.Cells.{left, right, own, cells-pair, possible-p}

@@ -11,8 +11,8 @@ use Rattle.rules.specs.Limits.{argumentBytes}
 use Rattle.body.specs.declared.Entry.{Entry}
 use Rattle.body.specs.declared.Entry.the-variants.{Letter, Pair, Within, Wrong}
 use Rattle.body.proofs.Entries.{Fits}
-use Rattle.watcher.specs.Walk.{cellsNeeded, wordsNeeded, wordsOpened}
-use Rattle.watcher.specs.Form.{Narrow, Put, wordsOf, zeros}
+use Rattle.watcher.specs.inner.Walk.{cellsNeeded, wordsNeeded, wordsOpened}
+use Rattle.watcher.specs.inner.Form.{Narrow, Put, wordsOf, zeros}
 use Rattle.watcher.proofs.Opens.{opened-count, opened-next, opened-entry, opened-zero, opened-beyond, length-opened}
 
 -- j of the n words are put

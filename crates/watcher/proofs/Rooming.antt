@@ -12,10 +12,10 @@ use Rattle.body.specs.declared.Entry.the-variants.{Letter, Pair, Within}
 use Rattle.body.specs.declared.BodyCheck.the-variants.{Sound}
 use Rattle.body.specs.Entry.{entryAt, entriesBy, entries}
 use Rattle.body.specs.Check.{checkOf}
-use Rattle.body.specs.Machine.{step, run}
+use Rattle.body.specs.inner.Machine.{step, run}
 use Rattle.body.proofs.Walk.{run-end, sound-start}
 use Rattle.cell.specs.Cell.{cellWords, possible}
-use Rattle.watcher.specs.Walk.{roomM, cellsNeeded}
+use Rattle.watcher.specs.inner.Walk.{roomM, cellsNeeded}
 use Rattle.watcher.proofs.Cells.{words-le}
 use Rattle.watcher.proofs.Entries.{run-step}
 use Rattle.watcher.proofs.Piles.{total, Piled, piled-start, piled-letter, piled-within, piled-pair}

@@ -12,7 +12,7 @@ use Rattle.body.specs.Entry.{entriesBy}
 use Rattle.body.specs.Postfix.{postfix}
 use Rattle.body.proofs.Trees.{length-postfix}
 use Rattle.watcher.specs.State.{header, countOf, nextOf, entryWords, cells, stateOf, roomOf, InForm}
-use Rattle.watcher.specs.Walk.{entryIn}
+use Rattle.watcher.specs.inner.Walk.{entryIn}
 use Rattle.watcher.proofs.Cells.{length-cells}
 use Rattle.watcher.proofs.Entries.{entries-in, length-words}
 

@@ -14,11 +14,11 @@ use Rattle.detector.specs.Choice.{choose}
 use Rattle.detector.specs.Step.{answer, next}
 use Rattle.detector.specs.Form.{Form}
 use Rattle.detector.proofs.Form.{in-form}
-use Rattle.body.specs.Machine.{eval}
+use Rattle.body.specs.inner.Machine.{eval}
 use Rattle.cell.specs.Cell.{cellWords, cellAnswer, cellAfter}
 use Rattle.cell.proofs.WordLaws.{kept-words}
 use Rattle.watcher.specs.State.{cells}
-use Rattle.watcher.specs.Walk.{Value, tickPair, tickM}
+use Rattle.watcher.specs.inner.Walk.{Value, tickPair, tickM}
 use Rattle.watcher.proofs.Cells.{left, right, own, cells-pair, cells-ahead, form-left, form-right, length-own}
 use Rattle.watcher.proofs.Starts.{padded, length-padded, gather-padded}
 

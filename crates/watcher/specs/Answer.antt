@@ -1,4 +1,4 @@
--- What the watcher's calls promise, by cases of the answer (document 01: opening 6, 7, 8; a tick 10, 9, 11).
+-- What the watcher's calls promise, by cases of the answer (docs/RULES.md, "Room and state", "Refusals").
 -- Assumes nothing: these are definitions.
 use mathlib.Core.Path.{_≡_}
 use mathlib.Core.List.{List, _++_}

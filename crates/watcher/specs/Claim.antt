@@ -1,4 +1,4 @@
--- What is claimed of the watcher: demand 3, on the promises of its calls. Assumes nothing: these are definitions.
+-- What is claimed of the watcher: its reports are the rules' own (docs/RULES.md, "The algebra"), on the promises of its calls. Assumes nothing: these are definitions.
 use mathlib.Core.Path.{_≡_}
 use mathlib.Core.Logic.{_↔_}
 use mathlib.Core.Bool.{true}
@@ -19,7 +19,7 @@ use Rattle.watcher.specs.declared.Ticking.the-variants as Ticks
 use Rattle.watcher.specs.declared.Feeding.{Feeding}
 use Rattle.watcher.specs.State.{roomOf, InForm}
 use Rattle.watcher.specs.Answer.{RoomAnswers, OpenAnswers, TickAnswers}
-use Rattle.watcher.specs.Walk.{formed, extent}
+use Rattle.watcher.specs.inner.Walk.{formed, extent}
 use Rattle.watcher.specs.declared.Feeding.the-variants.{Fed}
 use Rattle.watcher.specs.Feed.{paired, AllTicked, FeedAnswers}
 

@@ -1,7 +1,5 @@
 pub mod State
 pub mod Answer
-pub mod Walk
-pub mod Form
 pub mod Feed
-pub mod Step
 pub mod Claim
+pub mod inner

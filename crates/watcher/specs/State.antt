@@ -1,4 +1,4 @@
--- The state as words (document 01, "Room and the watcher's state"). Assumes nothing: these are definitions.
+-- The state as words (docs/RULES.md, "Room and state"). Assumes nothing: these are definitions.
 use mathlib.Core.Path.{_≡_}
 use mathlib.Core.List.{List, [], _∷_, _++_}
 use Prim.Native.Nat.{ℕ, _+_, _*_, _≤_}

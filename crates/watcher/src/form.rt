@@ -7,8 +7,8 @@ ghost use mathlib.Core.Path.{_≡_};
 ghost use Prim.Native.Nat.{_+_, _<_};
 ghost use lib.ListN.{length};
 ghost use Rattle.watcher.specs.State.{header};
-ghost use Rattle.watcher.specs.Walk.{entryIn};
-ghost use Rattle.watcher.specs.Form.{Entered, CellReady, CellEnds, judgedEnd};
+ghost use Rattle.watcher.specs.inner.Walk.{entryIn};
+ghost use Rattle.watcher.specs.inner.Form.{Entered, CellReady, CellEnds, judgedEnd};
 
 // Entry i of a state.
 pub(crate) fn entry_in(state: &[u64], i: usize) -> Entry

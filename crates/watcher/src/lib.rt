@@ -18,9 +18,9 @@ ghost use Rattle.body.specs.Entry.{opNumber};
 ghost use Rattle.body.specs.Check.{checkOf};
 ghost use Rattle.watcher.specs.Answer.{RoomAnswers, OpenAnswers, TickAnswers, TickReady, IsTicked};
 ghost use Rattle.watcher.specs.Feed.{FeedAnswers, firstFault};
-ghost use Rattle.watcher.specs.Walk.{cellsNeeded, wordsOpened, extent};
+ghost use Rattle.watcher.specs.inner.Walk.{cellsNeeded, wordsOpened, extent};
 ghost use Rattle.watcher.specs.State.{header, nextOf, wordOf};
-ghost use Rattle.watcher.specs.Form.{Narrow, Put, wordsOf, zeros, OpenReady};
+ghost use Rattle.watcher.specs.inner.Form.{Narrow, Put, wordsOf, zeros, OpenReady};
 
 // A state begins with its header: the number of entries, then the next tick allowed.
 pub(crate) const COUNT: usize = 0;

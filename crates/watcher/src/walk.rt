@@ -9,8 +9,8 @@ ghost use Prim.Native.Nat.{_<_};
 ghost use lib.ListN.{getD};
 ghost use Rattle.rules.specs.Limits.{ticks};
 ghost use Rattle.watcher.specs.State.{countOf};
-ghost use Rattle.watcher.specs.Walk.{letterAnswer, withinAnswer};
-ghost use Rattle.watcher.specs.Step.{StackFor, StepsReady, StepsDone, FeedReady, FeedDone, ownFrom, PairReady, PairDone};
+ghost use Rattle.watcher.specs.inner.Walk.{letterAnswer, withinAnswer};
+ghost use Rattle.watcher.specs.inner.Step.{StackFor, StepsReady, StepsDone, FeedReady, FeedDone, ownFrom, PairReady, PairDone};
 
 // For up to 15 entries: at most 8 answers and 14 possible starts.
 pub(crate) fn step_small(state: &mut [u64], t: u64, events: u32) -> u64

@@ -8,7 +8,7 @@ use lib.ListN.{length, take, drop, length-take, length-drop, length-append, drop
 use lib.Seq.{paste, length-take-le, take-all, take-length, take-at, drop-drop, take-append-add}
 use borrow.Rule.Slice.PartMut.{midOf, putMid}
 use Rattle.watching.specs.Chunk.{mostHeld}
-use Rattle.watching.specs.Progress.{Appended}
+use Rattle.watching.specs.inner.Progress.{Appended}
 
 -- the first k of a list are its first n, where that is the lesser of k and its length
 pub take-least : (l : List ℕ) (k n : ℕ) → n ≡ min (length l) k → take k l ≡ take n l

@@ -22,10 +22,10 @@ use Rattle.watching.specs.Answer.FurtherLine.{window, nothing}
 use Rattle.watching.specs.Answer.Acted.{silent, added, full}
 use Rattle.watching.specs.Answer.LineTaken.{further}
 use Rattle.watching.specs.Chunk.{mostHeld, TakesBytes}
-use Rattle.watching.specs.Progress.{lineLength, Progress, Ready}
-use Rattle.watching.specs.Batch.{mostTicks, mostReported, TickLines, Gathers, Fair, FarFromFull, answerAt, AllReported, ReportAllReady, IsAllReported}
-use Rattle.watching.specs.Batch.TickLines.{none as lines-none, more as lines-more}
-use Rattle.watching.specs.Batch.AllReported.{none as reports-none, more as reports-more}
+use Rattle.watching.specs.inner.Progress.{lineLength, Progress, Ready}
+use Rattle.watching.specs.inner.Batch.{mostTicks, mostReported, TickLines, Gathers, Fair, FarFromFull, answerAt, AllReported, ReportAllReady, IsAllReported}
+use Rattle.watching.specs.inner.Batch.TickLines.{none as lines-none, more as lines-more}
+use Rattle.watching.specs.inner.Batch.AllReported.{none as reports-none, more as reports-more}
 use Rattle.watching.proofs.TakingBytes.{line-leads}
 use Rattle.watching.proofs.Progress.{writes-on}
 

@@ -13,7 +13,7 @@ use Rattle.watching.specs.declared.Chunked.{Chunked}
 use Rattle.watching.specs.Answer.{IsTaken}
 use Rattle.watching.specs.Whole.Takes.{none, more}
 use Rattle.watching.specs.Chunk.{mostHeld, TakesBytes, heldIn, IsChunked, lastLines}
-use Rattle.watching.specs.Progress.{Unended, Appended, Progress, HeldRest, LastTaken}
+use Rattle.watching.specs.inner.Progress.{Unended, Appended, Progress, HeldRest, LastTaken}
 use Rattle.watching.proofs.Writings.{nothing-written}
 use Rattle.watching.proofs.TakingBytes.{stops, held-all, bytes-some}
 use Rattle.watching.proofs.Appending.{take-least}

@@ -7,8 +7,8 @@ use native.Mathlib.Omega.{arith}
 use lib.ListN.{length, getD, take, drop, set, length-set, length-drop}
 use lib.Seq.{getD-drop, drop-drop, take-suc-set}
 use Rattle.line.specs.Answer.{IsTick}
-use Rattle.watching.specs.Progress.{lineLength}
-use Rattle.watching.specs.Batch.{mostTicks, IsFound, MayEnd, TickLines, none, more, Gathers}
+use Rattle.watching.specs.inner.Progress.{lineLength}
+use Rattle.watching.specs.inner.Batch.{mostTicks, IsFound, MayEnd, TickLines, none, more, Gathers}
 use Rattle.watching.proofs.LineFeeds.{tick-ends, feed-there}
 
 -- a line may end where the line from a later place does

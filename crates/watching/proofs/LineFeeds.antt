@@ -13,7 +13,7 @@ use Rattle.decimal.specs.Decimal.{digitsIn, decimal}
 use Rattle.text.specs.Render.{letterByte}
 use Rattle.line.specs.Lines.{letterIf, lettersFrom, lettersOf}
 use Rattle.line.specs.Answer.{IsTick}
-use Rattle.watching.specs.Progress.{lineLength}
+use Rattle.watching.specs.inner.Progress.{lineLength}
 
 -- no byte is a line feed
 abbrev Feedless : List ℕ → Type 0

@@ -13,7 +13,7 @@ use Rattle.watching.specs.declared.Taken.{Taken}
 use Rattle.watching.specs.declared.Chunked.{Chunked}
 use Rattle.watching.specs.Answer.{LineTaken, IsTaken}
 use Rattle.watching.specs.Chunk.{mostHeld}
-use Rattle.watching.specs.Progress.{lineLength, LineEnds, Appended, WritesOn, Progress, Ready, LineReady, JoinReady}
+use Rattle.watching.specs.inner.Progress.{lineLength, LineEnds, Appended, WritesOn, Progress, Ready, LineReady, JoinReady}
 use Rattle.watching.proofs.Takings.{part-first}
 use Rattle.watching.proofs.TakingBytes.{line-leads}
 use Rattle.watching.proofs.Appending.{take-least, lent-rest, rest-back, joined-line}

@@ -20,8 +20,8 @@ use Rattle.watching.specs.declared.Taken.{Taken}
 use Rattle.watching.specs.declared.LineAnswer.the-variants.{Window}
 use Rattle.watching.specs.Runs.{nextRun}
 use Rattle.watching.specs.Answer.{Acted, silent, added, full, IsActed}
-use Rattle.watching.specs.Progress.{WritesOn}
-use Rattle.watching.specs.Batch.{answerAt, AllReported, none, more, Holds, ReportReady, IsReported, ReportAllReady, IsAllReported}
+use Rattle.watching.specs.inner.Progress.{WritesOn}
+use Rattle.watching.specs.inner.Batch.{answerAt, AllReported, none, more, Holds, ReportReady, IsReported, ReportAllReady, IsAllReported}
 use Rattle.watching.proofs.Writings.{nothing-written}
 use Rattle.watching.proofs.Appending.{lent-rest}
 use Rattle.watching.proofs.Progress.{writes-on, writes-whole, writes-length, writes-then}

@@ -14,7 +14,7 @@ use Rattle.watching.specs.declared.Run.{Run}
 use Rattle.watching.specs.Answer.{LineTaken}
 use Rattle.watching.specs.Chunk.{mostHeld, hold, TakesBytes}
 use Rattle.watching.specs.Chunk.TakesBytes.{all, full, byte, line}
-use Rattle.watching.specs.Progress.{lineLength, Unended}
+use Rattle.watching.specs.inner.Progress.{lineLength, Unended}
 
 -- ---- where a line ends
 

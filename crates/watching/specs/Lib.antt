@@ -2,6 +2,5 @@ pub mod Runs
 pub mod Answer
 pub mod Whole
 pub mod Chunk
-pub mod Progress
-pub mod Batch
 pub mod Claim
+pub mod inner

@@ -9,9 +9,9 @@ ghost use mathlib.Core.Bool.{true};
 ghost use mathlib.Core.List.{[]};
 ghost use Prim.Native.Nat.{_+_, _≤_};
 ghost use lib.ListN.{length};
-ghost use Rattle.watching.specs.Progress.{Progress, Ready};
-ghost use Rattle.watching.specs.Batch.{mostTicks, mostReported, FoundAt, MayEnd, Gathers};
-ghost use Rattle.watching.specs.Batch.{FarFromFull, ReportReady, IsReported, ReportAllReady, IsAllReported};
+ghost use Rattle.watching.specs.inner.Progress.{Progress, Ready};
+ghost use Rattle.watching.specs.inner.Batch.{mostTicks, mostReported, FoundAt, MayEnd, Gathers};
+ghost use Rattle.watching.specs.inner.Batch.{FarFromFull, ReportReady, IsReported, ReportAllReady, IsAllReported};
 
 // The number of lines read at once.
 const MOST_TICKS: usize = 64;

@@ -8,7 +8,7 @@ ghost use Prim.Native.Nat.{_+_, _-_, _≤_, _<_, min};
 ghost use lib.ListN.{length, take, drop};
 ghost use Rattle.line.specs.Lines.{mostWritten};
 ghost use Rattle.watching.specs.Chunk.{mostHeld, IsChunked};
-ghost use Rattle.watching.specs.Progress.{lineLength, Appended, Progress, Ready, LineReady, LinesTaken, JoinReady, HeldRest, LastTaken};
+ghost use Rattle.watching.specs.inner.Progress.{lineLength, Appended, Progress, Ready, LineReady, LinesTaken, JoinReady, HeldRest, LastTaken};
 
 // Takes a chunk, where `part` has room for a line.
 pub(crate) fn take(

@@ -5,7 +5,7 @@ use Prim.Native.Nat.{_<_}
 use lib.ListN.{length}
 use denote.Ref.{now}
 use Rattle.line.specs.Answer.RefusedLine.{long, malformed, range}
-use Rattle.line.specs.Number.{NumberOf, IsNumber}
+use Rattle.line.specs.inner.Number.{NumberOf, IsNumber}
 use Rattle.line.proofs.Parses.{no-line}
 use Rattle.line.proofs.Readings.{parsed-none, parsed-end, parsed-other, parsed-no-letter, out-of-range, in-range}
 use borrow.Author.Needs.{needs}

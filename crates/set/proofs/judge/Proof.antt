@@ -6,8 +6,8 @@ use lib.ListN.{drop}
 use borrow.Author.Needs.{needs}
 use Rattle.rules.proofs.Lists.{drop-part}
 use Rattle.watcher.specs.State.{nextOf}
-use Rattle.watcher.specs.Walk.{extent}
-use Rattle.set.specs.Calls.{lateAfter}
+use Rattle.watcher.specs.inner.Walk.{extent}
+use Rattle.set.specs.inner.Calls.{lateAfter}
 use Rattle.set.proofs.Judges.{Judging, judging-start, judging-late, judging-end, judging-broken}
 use Rattle.set.proofs.Judges.{judging-within, judging-more}
 use Rattle.set.proofs.judge.Statement.{statement}

@@ -3,7 +3,7 @@ use mathlib.Core.Path.{sym, _∙_}
 use native.Mathlib.Decide.{decLt}
 use native.Mathlib.Omega.{arith}
 use Rattle.rules.proofs.Decisions.{pick-yes, pick-no}
-use Rattle.set.specs.Calls.{lateAfter}
+use Rattle.set.specs.inner.Calls.{lateAfter}
 use Rattle.set.proofs.late_after.Statement.{statement}
 use Rattle.set.proofs.late_after.Tie as tie
 

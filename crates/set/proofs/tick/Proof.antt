@@ -2,7 +2,7 @@
 use mathlib.Core.Path.{refl, subst}
 use native.Mathlib.Omega.{arith}
 use Rattle.set.specs.Set.{many, short, over, fault}
-use Rattle.set.specs.Calls.{Judged, Ready}
+use Rattle.set.specs.inner.Calls.{Judged, Ready}
 use Rattle.set.proofs.Steps.{set-taken}
 use borrow.Author.Needs.{needs}
 use Rattle.set.proofs.tick.Statement.{statement}

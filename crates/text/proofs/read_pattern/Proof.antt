@@ -5,7 +5,7 @@ use Prim.Native.Nat.{_≤_}
 use lib.ListN.{length, replicate}
 use denote.Ref.{now}
 use Rattle.rules.specs.Limits.{mostText}
-use Rattle.text.specs.Helpers.{bodyLength, ExpressionAt, IsExpression}
+use Rattle.text.specs.inner.Helpers.{bodyLength, ExpressionAt, IsExpression}
 use Rattle.text.specs.Answer.RefusedText.{long, syntax, many, room}
 use Rattle.text.proofs.Readings.{stuck, over, many-entries, no-room, made-length, all-read}
 use borrow.Author.Needs.{needs}

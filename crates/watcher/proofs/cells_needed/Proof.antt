@@ -8,7 +8,7 @@ use borrow.Author.Needs.{needs}
 use Rattle.rules.specs.Limits.{argumentBytes}
 use Rattle.body.specs.declared.Entry.the-variants.{Letter, Pair}
 use Rattle.body.specs.Entry.{entryAt}
-use Rattle.body.specs.Stack.{stack, stackBy}
+use Rattle.body.specs.inner.Stack.{stack, stackBy}
 use Rattle.watcher.proofs.Piles.{piled-wrong, possible-le}
 use Rattle.watcher.proofs.Arrays.{letter-fits, letter-stack, pair-two, pair-stack, pair-small, pair-set}
 use Rattle.watcher.proofs.Rooming.{Rooming, rooming-start, rooming-end, rooming-letter, rooming-within, rooming-pair}

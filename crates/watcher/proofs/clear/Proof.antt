@@ -1,7 +1,7 @@
 -- `watcher::clear` meets its contract: j of the words are put. The measure is the words left. Assumes nothing.
 use mathlib.Core.Path.{refl}
 use Prim.Native.Nat.{_-_}
-use Rattle.watcher.specs.Form.{zeros}
+use Rattle.watcher.specs.inner.Form.{zeros}
 use Rattle.watcher.proofs.Puts.{Putting, putting-none, putting-more, putting-all}
 use native.Mathlib.Omega.{arith}
 use Rattle.watcher.proofs.clear.Statement.{statement}

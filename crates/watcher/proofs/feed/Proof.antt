@@ -4,9 +4,9 @@ use mathlib.Core.Path.{_≡_, refl, sym, ap, _∙_}
 use mathlib.Core.Bool.{true}
 use native.Mathlib.Omega.{arith}
 use Rattle.watcher.specs.State.{nextOf}
-use Rattle.watcher.specs.Walk.{formed}
+use Rattle.watcher.specs.inner.Walk.{formed}
 use Rattle.watcher.specs.Feed.{firstFault, uneven, short}
-use Rattle.watcher.specs.Step.{FeedReady}
+use Rattle.watcher.specs.inner.Step.{FeedReady}
 use Rattle.watcher.proofs.Judges.{extent-formed, extent-broken}
 use Rattle.watcher.proofs.Feeds.{fed-all, fed-broken, fed-faulty}
 use borrow.Author.Needs.{needs}

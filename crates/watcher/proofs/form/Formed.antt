@@ -11,8 +11,8 @@ use lib.ListN.{length}
 use borrow.Author.Tests.{le-leb, lt-leb}
 use Rattle.rules.specs.Limits.{mostEntries, ticks}
 use Rattle.watcher.specs.State.{header, countOf, nextOf}
-use Rattle.watcher.specs.Walk.{isSome, judged, formed, endBy, extent}
-use Rattle.watcher.specs.Form.{sounds, cellsEnd, judgedEnd}
+use Rattle.watcher.specs.inner.Walk.{isSome, judged, formed, endBy, extent}
+use Rattle.watcher.specs.inner.Form.{sounds, cellsEnd, judgedEnd}
 
 module _ (s : List ℕ) where
   pub formed-least : countOf s < 1 → false ≡ formed s

@@ -18,15 +18,15 @@ use Rattle.body.specs.declared.Entry.the-variants.{Letter, Pair, Within, Wrong}
 use Rattle.body.specs.declared.Depth.the-variants.{Lacks, To}
 use Rattle.body.specs.Entry.{entriesBy}
 use Rattle.body.specs.Check.{depthOf}
-use Rattle.body.specs.Machine.{step, run}
-use Rattle.body.specs.Stack.{stack}
+use Rattle.body.specs.inner.Machine.{step, run}
+use Rattle.body.specs.inner.Stack.{stack}
 use Rattle.body.proofs.Stacks.{stack-pop2}
 use Rattle.body.proofs.Walk.{run-end}
 use Rattle.cell.specs.Cell.{cellWords, possible}
 use Rattle.cell.specs.Form.{cellFits}
 use Rattle.watcher.specs.State.{header, countOf, nextOf}
-use Rattle.watcher.specs.Walk.{entryIn, judgeCell, judgeM, judged, endBy}
-use Rattle.watcher.specs.Form.{sounds, cellsEnd, judgedEnd, CellEnds}
+use Rattle.watcher.specs.inner.Walk.{entryIn, judgeCell, judgeM, judged, endBy}
+use Rattle.watcher.specs.inner.Form.{sounds, cellsEnd, judgedEnd, CellEnds}
 use Rattle.watcher.proofs.Judges.{run-none}
 use Rattle.watcher.proofs.Entries.{run-step}
 use Rattle.watcher.proofs.Piles.{total, possible-le}

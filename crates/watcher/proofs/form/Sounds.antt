@@ -10,7 +10,7 @@ use Rattle.body.specs.declared.Depth.the-variants.{Lacks, To}
 use Rattle.body.specs.Entry.{entriesBy}
 use Rattle.body.specs.Check.{depthOf, onDepth, scan}
 use Rattle.body.proofs.Scan.{scan-turn, scan-end}
-use Rattle.watcher.specs.Walk.{isNone}
+use Rattle.watcher.specs.inner.Walk.{isNone}
 
 -- the entries from i on break no rule, with d trees there
 abbrev pub soundFrom : (ℕ → Entry) → ℕ → ℕ → ℕ → Bool

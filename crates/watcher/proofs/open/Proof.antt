@@ -9,7 +9,7 @@ use Rattle.body.specs.Bytes.{Bytes}
 use Rattle.body.specs.Check.{checkOf}
 use Rattle.body.proofs.Walk.{sound-start}
 use Rattle.watcher.specs.Answer.{IsOpened, OpenRefused, unsound}
-use Rattle.watcher.specs.Walk.{wordsNeeded}
+use Rattle.watcher.specs.inner.Walk.{wordsNeeded}
 use Rattle.watcher.proofs.Opens.{opened-as-written, refused-room}
 use native.Mathlib.Omega.{arith}
 use borrow.Author.Needs.{needs}

@@ -8,7 +8,7 @@ use Rattle.body.specs.declared.BodyCheck.the-variants.{Sound}
 use Rattle.body.specs.Check.{checkOf}
 use Rattle.watcher.specs.declared.Needed.the-variants.{Words}
 use Rattle.watcher.specs.Answer.{RoomAnswers}
-use Rattle.watcher.specs.Walk.{wordsNeeded}
+use Rattle.watcher.specs.inner.Walk.{wordsNeeded}
 use Rattle.watcher.proofs.Opens.{room-answers}
 use Rattle.watcher.proofs.room.Statement.{statement}
 use Rattle.watcher.proofs.room.Tie as tie

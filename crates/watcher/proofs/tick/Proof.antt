@@ -3,7 +3,7 @@ use mathlib.Core.Path.{_≡_, refl}
 use mathlib.Core.Bool.{true}
 use native.Mathlib.Omega.{arith}
 use borrow.Author.Needs.{needs}
-use Rattle.watcher.specs.Walk.{formed}
+use Rattle.watcher.specs.inner.Walk.{formed}
 use Rattle.watcher.proofs.Judges.{extent-formed, extent-broken}
 use Rattle.watcher.proofs.Calls.{tick-ready, ticked-nothing, ticked-window, refused-form, refused-late, refused-range}
 use Rattle.watcher.proofs.tick.Statement.{statement}

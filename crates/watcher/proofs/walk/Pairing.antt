@@ -16,7 +16,7 @@ use Rattle.cell.proofs.Sizes.{is-cell}
 use Rattle.cell.proofs.Steps.{step-answered}
 use Rattle.cell.proofs.StartLaws.{cell-starts-fit, push-answered}
 use Rattle.cell.proofs.WordLaws.{length-after, length-cell-starts, length-starts-after}
-use Rattle.watcher.specs.Step.{segment, over, ownFrom, PairReady, PairDone}
+use Rattle.watcher.specs.inner.Step.{segment, over, ownFrom, PairReady, PairDone}
 
 -- the left operand's starts come first
 pub starts-after-own : (op : Op) (xs ys c : List ℕ) → startsAfter op xs ys c ≡ xs ++ startsAfter op [] ys c

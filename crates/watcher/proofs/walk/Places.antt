@@ -6,7 +6,7 @@ use native.Mathlib.Omega.{arith}
 use lib.ListN.{length, getD, take, drop, set, length-append, take-append-drop}
 use lib.Seq.{take-at, drop-at, getD-take, length-take-le}
 use borrow.Rule.Slice.PartMut.{putMid}
-use Rattle.watcher.specs.Walk.{Cells, entryIn, ticked, wordsAfter}
+use Rattle.watcher.specs.inner.Walk.{Cells, entryIn, ticked, wordsAfter}
 
 -- s is the old words up to the cells, then those written, up to a place, and then those ahead
 pub record Held (old s : List ℕ) (at : ℕ) (g : Cells) : Type 0 where

@@ -20,12 +20,12 @@ use Rattle.body.specs.declared.Entry.{Entry}
 use Rattle.body.specs.declared.Entry.the-variants.{Letter, Pair, Within, Wrong}
 use Rattle.body.specs.Entry.{entriesBy}
 use Rattle.body.specs.Postfix.{postfix}
-use Rattle.body.specs.Machine.{step, run}
+use Rattle.body.specs.inner.Machine.{step, run}
 use Rattle.body.proofs.Scan.{left-suc}
 use Rattle.body.proofs.Bodies.{length-by}
 use Rattle.cell.specs.Cell.{cellWords}
 use Rattle.watcher.specs.State.{header, countOf, cells, InForm}
-use Rattle.watcher.specs.Walk.{Value, Cells, entryIn, tickM, ticked}
+use Rattle.watcher.specs.inner.Walk.{Value, Cells, entryIn, tickM, ticked}
 use Rattle.watcher.proofs.Cells.{left, right, own, cells-ahead, form-left, form-right, length-own}
 use Rattle.watcher.proofs.Starts.{padded, length-padded}
 use Rattle.watcher.proofs.States.{entries-read, cells-from}

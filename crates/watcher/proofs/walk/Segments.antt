@@ -7,10 +7,10 @@ use native.Mathlib.Omega.{arith}
 use lib.ListN.{length, getD, take, drop, set, length-append, length-drop, length-set, take-append-drop}
 use lib.Seq.{take-at, take-append-le, drop-append-le, length-take-le, getD-set-same, getD-set-other}
 use borrow.Author.Count.{below-more}
-use Rattle.body.specs.Stack.{stackBy}
+use Rattle.body.specs.inner.Stack.{stackBy}
 use Rattle.body.proofs.Stacks.{stack-ext, stack-push, stack-pop}
-use Rattle.watcher.specs.Walk.{Value}
-use Rattle.watcher.specs.Step.{segment, over}
+use Rattle.watcher.specs.inner.Walk.{Value}
+use Rattle.watcher.specs.inner.Step.{segment, over}
 use Rattle.watcher.proofs.walk.Runs.{startsOn}
 
 part-front : (a n : ℕ) (p q : List ℕ) → a + n ≤ length p → take n (drop a (p ++ q)) ≡ take n (drop a p)

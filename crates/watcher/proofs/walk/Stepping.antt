@@ -10,13 +10,13 @@ use borrow.Rule.Slice.PartMut.{putMid}
 use Rattle.rules.specs.declared.Op.{Op}
 use Rattle.rules.specs.Limits.{ticks, mostEntries}
 use Rattle.body.specs.declared.Entry.the-variants.{Letter, Pair, Within, Wrong}
-use Rattle.body.specs.Stack.{stackBy}
+use Rattle.body.specs.inner.Stack.{stackBy}
 use Rattle.body.proofs.Stacks.{stack-pop}
 use Rattle.cell.specs.Cell.{cellWords, cellAnswer, cellAfter, startsAfter}
 use Rattle.cell.proofs.WordLaws.{length-after, length-starts-after}
 use Rattle.watcher.specs.State.{header, countOf}
-use Rattle.watcher.specs.Walk.{entryIn, letterAnswer, withinAnswer, lastAnswer, answerOf}
-use Rattle.watcher.specs.Step.{segment, over, PairReady, PairDone, StackFor, StepsReady, StepsDone}
+use Rattle.watcher.specs.inner.Walk.{entryIn, letterAnswer, withinAnswer, lastAnswer, answerOf}
+use Rattle.watcher.specs.inner.Step.{segment, over, PairReady, PairDone, StackFor, StepsReady, StepsDone}
 use Rattle.watcher.proofs.States.{count-word, state-long}
 use Rattle.watcher.proofs.Judges.{formed-exactly}
 use Rattle.watcher.proofs.walk.Runs.{startsOn}

@@ -13,13 +13,13 @@ use Rattle.rules.specs.Limits.{letters, argumentBytes}
 use Rattle.body.specs.declared.Entry.{Entry}
 use Rattle.body.specs.declared.Entry.the-variants.{Letter, Pair, Within, Wrong}
 use Rattle.body.specs.Entry.{entriesBy}
-use Rattle.body.specs.Machine.{step, run}
+use Rattle.body.specs.inner.Machine.{step, run}
 use Rattle.body.proofs.Walk.{run-end}
 use Rattle.cell.specs.Cell.{cellWords, cellAnswer, cellAfter, startsAfter}
 use Rattle.cell.proofs.WordLaws.{length-after}
 use Rattle.watcher.specs.State.{header, countOf, nextOf, InForm}
-use Rattle.watcher.specs.Walk.{Value, Cells, entryIn, tickPair, letterAnswer, withinAnswer, tickM}
-use Rattle.watcher.specs.Walk.{formed, ticked, lastAnswer, answerOf, wordsAfter}
+use Rattle.watcher.specs.inner.Walk.{Value, Cells, entryIn, tickPair, letterAnswer, withinAnswer, tickM}
+use Rattle.watcher.specs.inner.Walk.{formed, ticked, lastAnswer, answerOf, wordsAfter}
 use Rattle.watcher.proofs.Entries.{run-step}
 use Rattle.watcher.proofs.States.{next-word, state-long}
 use Rattle.watcher.proofs.Judges.{formed-exactly}

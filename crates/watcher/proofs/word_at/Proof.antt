@@ -4,7 +4,7 @@ use Rattle.rules.specs.Limits.{argumentBytes}
 use Rattle.body.specs.Entry.{entryAt}
 use Rattle.body.proofs.Entries.{read-fits}
 use Rattle.watcher.specs.State.{wordOf}
-use Rattle.watcher.specs.Form.{Narrow}
+use Rattle.watcher.specs.inner.Form.{Narrow}
 use Rattle.watcher.proofs.Puts.{fits-narrow}
 use borrow.Author.Needs.{needs}
 use Rattle.watcher.proofs.word_at.Statement.{statement}

@@ -1,7 +1,7 @@
 -- `watcher::word_of` meets its contract, arm by arm. Assumes nothing.
 use mathlib.Core.Path.{subst}
 use Prim.Native.Nat.{_<_, _^_}
-use Rattle.watcher.specs.Form.{Narrow}
+use Rattle.watcher.specs.inner.Form.{Narrow}
 use native.Mathlib.Omega.{arith}
 use borrow.Author.Needs.{needs}
 use Rattle.watcher.proofs.word_of.Statement.{statement}

@@ -1,6 +1,6 @@
 -- `watcher::write_entries` meets its contract: i of the words are put. The measure is the words left. Assumes nothing.
 use Prim.Native.Nat.{_-_}
-use Rattle.watcher.specs.Form.{wordsOf}
+use Rattle.watcher.specs.inner.Form.{wordsOf}
 use Rattle.watcher.proofs.Puts.{Putting, putting-none, putting-more, putting-all}
 use native.Mathlib.Omega.{arith}
 use Rattle.watcher.proofs.write_entries.Statement.{statement}

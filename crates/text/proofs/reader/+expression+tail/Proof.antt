@@ -5,7 +5,7 @@ use native.Mathlib.Omega.{arith}
 use mathlib.Core.Path.{subst}
 use lib.ListN.{length}
 use denote.Ref.{now}
-use Rattle.text.specs.Helpers.{ExpressionAt, TailAt, DecimalAt, IsExpression, IsTail}
+use Rattle.text.specs.inner.Helpers.{ExpressionAt, TailAt, DecimalAt, IsExpression, IsTail}
 use Rattle.text.proofs.Ways.{Opened, no-text, is-letter, no-open, no-left, no-right, no-more, no-shut, is-bracket}
 use Rattle.text.proofs.Ways.{no-tail-text, no-sign, no-number, is-number, no-operand, is-operand}
 use Prim.Native.Nat.{ℕ, _<_, _-_, _+_}

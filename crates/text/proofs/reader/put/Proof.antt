@@ -6,7 +6,7 @@ use Prim.Native.Nat.{_*_}
 use mathlib.Core.List.{_∷_}
 use Rattle.rules.specs.Limits.{argumentBytes}
 use Rattle.body.specs.Bytes.{bytesOf}
-use Rattle.text.specs.Helpers.{entryLength}
+use Rattle.text.specs.inner.Helpers.{entryLength}
 use native.Mathlib.Omega.{arith}
 use native.Mathlib.Numerals.{towards-suc}
 use Rattle.text.proofs.Entries.{sets-out}

@@ -1,7 +1,7 @@
 -- `text::reader::sign` meets its contract: at each return the tests that led there say which case of `signOf` holds.
 -- Assumes nothing.
 use borrow.Author.Tests.{eq-eqb, ne-eqb}
-use Rattle.text.specs.Machine.{signOf}
+use Rattle.text.specs.inner.Machine.{signOf}
 use Rattle.text.proofs.reader.sign.Statement.{statement}
 use Rattle.text.proofs.reader.sign.Tie as tie
 

@@ -1,6 +1,6 @@
 -- `watcher::form::entry_in` meets its contract: a word is its op and 256 times its argument. Assumes nothing.
 use borrow.Author.Needs.{needs}
-use Rattle.watcher.specs.Walk.{entryIn}
+use Rattle.watcher.specs.inner.Walk.{entryIn}
 use Rattle.watcher.proofs.form.entry_in.Statement.{statement}
 use Rattle.watcher.proofs.form.entry_in.Tie as tie
 

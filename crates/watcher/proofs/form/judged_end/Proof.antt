@@ -7,9 +7,9 @@ use lib.ListN.{getD, length, length-set}
 use native.Mathlib.Omega.{arith}
 use borrow.Author.Needs.{needs}
 use Rattle.body.specs.declared.Entry.the-variants.{Letter, Pair, Within}
-use Rattle.body.specs.Stack.{stack, stackBy}
+use Rattle.body.specs.inner.Stack.{stack, stackBy}
 use Rattle.body.proofs.Stacks.{stack-set, stack-set2}
-use Rattle.watcher.specs.Walk.{entryIn}
+use Rattle.watcher.specs.inner.Walk.{entryIn}
 use Rattle.watcher.proofs.Arrays.{length-stack}
 use Rattle.watcher.proofs.Piles.{possible-le}
 use Rattle.watcher.proofs.form.Judging.{Judging, judging-start, judging-one, judging-other, judging-letter, judging-within, judging-pair}

@@ -1,5 +1,5 @@
 -- `watcher::walk::own_from` meets its contract: each arm is the case of `ownFrom`. Assumes nothing.
-use Rattle.watcher.specs.Step.{ownFrom}
+use Rattle.watcher.specs.inner.Step.{ownFrom}
 use borrow.Author.Needs.{needs}
 use Rattle.watcher.proofs.walk.own_from.Statement.{statement}
 use Rattle.watcher.proofs.walk.own_from.Tie as tie

@@ -6,7 +6,7 @@ use native.Mathlib.Omega.{arith}
 use lib.ListN.{length}
 use borrow.Author.Needs.{needs}
 use Rattle.body.specs.declared.Entry.the-variants.{Letter, Pair, Within}
-use Rattle.watcher.specs.Walk.{entryIn}
+use Rattle.watcher.specs.inner.Walk.{entryIn}
 use Rattle.watcher.proofs.walk.Stepping.{Stepping, ready-long, stepping-start, stepping-long, stepping-end, stepping-wrong}
 use Rattle.watcher.proofs.walk.Stepping.{stepping-room, stepping-letter, stepping-one, stepping-within, stepping-two, stepping-ready, stepping-pair}
 use Rattle.watcher.proofs.walk.step_over.Statement.{statement}

@@ -1,7 +1,7 @@
 -- `watching::batch::find_line` meets its contract: the line may end at either line feed. Assumes nothing.
 use mathlib.Core.Path.{subst}
 use native.Mathlib.Omega.{arith}
-use Rattle.watching.specs.Batch.{FoundAt}
+use Rattle.watching.specs.inner.Batch.{FoundAt}
 use Rattle.watching.proofs.Gatherings.{may-end}
 use borrow.Author.Needs.{needs}
 use Rattle.watching.proofs.batch.find_line.Statement.{statement}

@@ -2,7 +2,7 @@
 use Prim.Native.Nat.{_-_}
 use mathlib.Core.Path.{subst, sym, _∙_}
 use native.Mathlib.Omega.{arith}
-use Rattle.watching.specs.Batch.{mostTicks, FoundAt}
+use Rattle.watching.specs.inner.Batch.{mostTicks, FoundAt}
 use Rattle.watching.proofs.Gatherings.{Gathering, gathering-start, gathering-more, gathering-end}
 use borrow.Author.Needs.{needs}
 use Rattle.watching.proofs.batch.read_lines.Statement.{statement}

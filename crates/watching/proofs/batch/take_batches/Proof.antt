@@ -4,7 +4,7 @@ use mathlib.Core.Path.{_≡_, refl, _∙_}
 use mathlib.Core.List.{[]}
 use native.Mathlib.Omega.{arith}
 use lib.ListN.{length}
-use Rattle.watching.specs.Progress.{Progress}
+use Rattle.watching.specs.inner.Progress.{Progress}
 use Rattle.watching.proofs.Progress.{writes-length, no-progress, progress-ready, progress-then}
 use Rattle.watching.proofs.batch.take_batches.Statement.{statement}
 use Rattle.watching.proofs.batch.take_batches.Tie as tie

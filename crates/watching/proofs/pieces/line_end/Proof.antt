@@ -3,7 +3,7 @@ use Prim.Native.Nat.{_+_, _-_, _≤_}
 use mathlib.Core.Path.{_≡_}
 use lib.ListN.{length, drop}
 use native.Mathlib.Omega.{arith}
-use Rattle.watching.specs.Progress.{lineLength}
+use Rattle.watching.specs.inner.Progress.{lineLength}
 use Rattle.watching.proofs.TakingBytes.{ends-all, ends-here, ends-later}
 use Rattle.watching.proofs.pieces.line_end.Statement.{statement}
 use Rattle.watching.proofs.pieces.line_end.Tie as tie

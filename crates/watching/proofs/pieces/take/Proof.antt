@@ -2,7 +2,7 @@
 use native.Mathlib.Omega.{arith}
 use denote.Ref.{now}
 use lib.ListN.{take}
-use Rattle.watching.specs.Progress.{Progress}
+use Rattle.watching.specs.inner.Progress.{Progress}
 use Rattle.watching.proofs.Progress.{writes-length, progress-then}
 use Rattle.watching.proofs.Chunkings.{chunk-unroomed, chunk-unended, chunk-full, chunk-held}
 use borrow.Author.Needs.{needs}

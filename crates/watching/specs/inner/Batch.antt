@@ -14,7 +14,7 @@ use Rattle.watching.specs.declared.batch.Gathered.{Gathered}
 use Rattle.watching.specs.declared.LineAnswer.{LineAnswer}
 use Rattle.watching.specs.declared.LineAnswer.the-variants.{Nothing, Window}
 use Rattle.watching.specs.Answer.{Acted}
-use Rattle.watching.specs.Progress.{lineLength, LineEnds}
+use Rattle.watching.specs.inner.Progress.{lineLength, LineEnds}
 
 -- the number of lines read at once
 abbrev pub mostTicks : ℕ

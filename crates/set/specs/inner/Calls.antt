@@ -17,7 +17,7 @@ use Rattle.file.specs.Place.{bodyPlace}
 use Rattle.set.specs.declared.SetTicking.{SetTicking}
 use Rattle.set.specs.declared.SetTicking.the-variants.{Ticked, Refused}
 use Rattle.watcher.specs.State.{nextOf, stateOf, roomOf}
-use Rattle.watcher.specs.Walk.{formed, extent}
+use Rattle.watcher.specs.inner.Walk.{formed, extent}
 use Rattle.set.specs.Set.{Fault, SetTicked}
 use Rattle.set.specs.File.{Holds, roomsOf}
 

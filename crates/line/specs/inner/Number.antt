@@ -4,8 +4,8 @@ use mathlib.Core.Path.{_≡_}
 use mathlib.Core.List.{List}
 use lib.ListN.{length, drop}
 use Rattle.rules.specs.Limits.{ticks}
-use Rattle.line.specs.Scan.{frontOf}
-use Rattle.line.specs.Scan.Front.{none, number}
+use Rattle.line.specs.inner.Scan.{frontOf}
+use Rattle.line.specs.inner.Scan.Front.{none, number}
 use Rattle.line.specs.declared.reader.Decimal.{Decimal}
 use Rattle.line.specs.declared.reader.Decimal.the-variants.{Value, Bad}
 

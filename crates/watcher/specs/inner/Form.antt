@@ -14,7 +14,7 @@ use Rattle.body.specs.Entry.{entriesBy, entryAt}
 use Rattle.body.specs.Check.{scan}
 use Rattle.cell.specs.Cell.{cellWords}
 use Rattle.watcher.specs.State.{header, countOf, nextOf, wordOf}
-use Rattle.watcher.specs.Walk.{cellsNeeded, entryIn, isNone, judgeCell, judged, endBy}
+use Rattle.watcher.specs.inner.Walk.{cellsNeeded, entryIn, isNone, judgeCell, judged, endBy}
 
 -- the entries of a state break no rule
 unfoldable pub sounds : List ℕ → Bool

@@ -14,7 +14,7 @@ use Rattle.body.specs.Entry.{entryBytes, entriesBy, entryAt}
 use Rattle.body.specs.Postfix.{postfix, encode}
 use Rattle.decimal.specs.Backward.{Backward}
 use Rattle.text.specs.Render.{numbers, render}
-use Rattle.text.specs.Machine.{Frame, first, run, shut, want, have, limit, stopped}
+use Rattle.text.specs.inner.Machine.{Frame, first, run, shut, want, have, limit, stopped}
 use Rattle.text.specs.declared.reader.Reach.{Reach}
 use Rattle.text.specs.declared.reader.Reach.the-variants.{To, Stuck}
 use Rattle.text.specs.declared.reader.Decimal.{Decimal}

@@ -10,7 +10,7 @@ use Rattle.rules.specs.Limits.{ticks}
 use Rattle.cell.specs.Cell.{cellWords, possible, cellAnswer, cellAfter, startsAfter}
 use Rattle.watcher.specs.declared.Feeding.the-variants.{Fed}
 use Rattle.watcher.specs.State.{nextOf}
-use Rattle.watcher.specs.Walk.{formed, answerOf, wordsAfter, answersFed, wordsFed}
+use Rattle.watcher.specs.inner.Walk.{formed, answerOf, wordsAfter, answersFed, wordsFed}
 use Rattle.watcher.specs.Feed.{paired, firstFault}
 
 -- a state may take a tick

@@ -15,7 +15,7 @@ use Rattle.rules.specs.History.{Tick}
 use Rattle.body.specs.declared.Entry.{Entry}
 use Rattle.body.specs.Entry.{entryOf, entriesBy, entries}
 use Rattle.body.specs.Check.{scan}
-use Rattle.body.specs.Machine.{Machine, run}
+use Rattle.body.specs.inner.Machine.{Machine, run}
 use Rattle.cell.specs.Cell.{cellWords, possible, cellAnswer, cellAfter, startsAfter}
 use Rattle.cell.specs.Form.{cellFits}
 use Rattle.watcher.specs.State.{header, countOf, nextAt, nextOf, entryWords}

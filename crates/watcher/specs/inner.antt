@@ -1,0 +1,4 @@
+-- What the functions of the crate promise each other, and devices of its proofs: no reader has to believe these.
+pub mod Walk
+pub mod Form
+pub mod Step

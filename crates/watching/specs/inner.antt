@@ -1,0 +1,3 @@
+-- What the functions of the crate promise each other, and devices of its proofs: no reader has to believe these.
+pub mod Progress
+pub mod Batch
