@@ -7,3 +7,4 @@ pub mod Stacks
 pub mod Machines
 pub mod Walk
 pub mod Bodies
+pub mod Theorem

@@ -22,7 +22,7 @@ use Rattle.tally.specs.declared.Tally.{Tally}
 use Rattle.tally.specs.declared.Adding.the-variants.{Added}
 use Rattle.tally.specs.Tallied.{addedTo}
 use Rattle.tally.specs.Claim.{Window, span, Adds, one, none as no-windows}
-use Rattle.tally.proofs.Sums.{sums}
+use Rattle.tally.proofs.Theorem.{sums}
 use Rattle.line.specs.Lines.{windowLine, tallyLine}
 use Rattle.line.specs.Answer.{IsTick}
 use Rattle.watching.specs.declared.Run.{Run}
