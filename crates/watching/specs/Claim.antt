@@ -118,6 +118,6 @@ OneEnd =
     (run : Run) (held : ℕ) (p s s₁ s₂ d d₁ d₂ : List ℕ) (r₁ r₂ : Finishing) → FinishAnswers run held p s s₁ d d₁ r₁
     → FinishAnswers run held p s s₂ d d₂ r₂ → (r₁ ≡ r₂) × (s₁ ≡ s₂) × (d₁ ≡ d₂)
 
--- the words that the program lends are enough for the state of any pattern
+-- the words that the program has are enough for the state of any pattern
 abbrev pub RoomEnough : Type 0
 RoomEnough = (e : Pattern) → size e ≤ mostEntries → roomOf e ≤ 4096
