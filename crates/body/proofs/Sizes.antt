@@ -12,7 +12,7 @@ use borrow.Author.Tests.{eq-eqb, le-leb, eqb-true, leb-true}
 use Rattle.rules.proofs.Impossible.{impossible}
 use Rattle.rules.specs.Limits.{mostEntries}
 use Rattle.refusal.specs.declared.Refusal.the-variants.{Size}
-use Rattle.refusal.specs.Table.{entryOf, brokenAt}
+use Rattle.refusal.specs.Table.{entryNamed, brokenAt}
 use Rattle.body.specs.declared.BodyCheck.the-variants.{Sound, Refused}
 use Rattle.body.specs.Entry.{entries}
 use Rattle.body.specs.Check.{scan, sized, verdict, checkOf}
@@ -59,7 +59,7 @@ sound-cond false o p = impossible cc
 
 body-cond : (t : Bool) (o : Option ℕ) (i : ℕ) → cond t (verdict 0 o) (Refused Size) ≡ Refused (brokenAt 0 i) → (t ≡ true) × (o ≡ some i)
 body-cond true none i p = impossible cc
-body-cond true (some j) i p = let q : brokenAt 0 j ≡ brokenAt 0 i = cc in (refl, ap some (ap entryOf q))
+body-cond true (some j) i p = let q : brokenAt 0 j ≡ brokenAt 0 i = cc in (refl, ap some (ap entryNamed q))
 body-cond false o i p = impossible cc
 
 size-cond : (t : Bool) (o : Option ℕ) → cond t (verdict 0 o) (Refused Size) ≡ Refused Size → t ≡ false

@@ -11,7 +11,7 @@ ghost use Prim.Native.Nat.{_+_, _<_};
 ghost use lib.ListN.{length};
 ghost use Rattle.rules.specs.Limits.{argumentBytes};
 ghost use Rattle.body.specs.Bytes.{valueAt};
-ghost use Rattle.body.specs.Entry.{opOf, entryOf, entryAt};
+ghost use Rattle.body.specs.Entry.{opNumber, opOf, entryOf, entryAt};
 ghost use Rattle.body.specs.Check.{depthOf, checkOf};
 
 // What an entry stands for: a letter, an operator on two patterns, a restriction; or it breaks a rule by itself.
@@ -119,6 +119,18 @@ pub fn decode(op: u64, argument: u64) -> Entry
         return Entry::Wrong;
     }
     Entry::Wrong
+}
+
+// The op number of an operator.
+pub fn op_number(op: Op) -> u64
+    ensures { λ r. ⌜ r ≡ opNumber op ⌝ }
+{
+    match op {
+        Op::Either => 1,
+        Op::Both => 2,
+        Op::Without => 3,
+        Op::Chain => 4,
+    }
 }
 
 // The operator of an op number from 1 to 4.

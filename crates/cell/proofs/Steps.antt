@@ -2,36 +2,34 @@
 use mathlib.Core.Path.{_≡_, refl, sym, ap, _∙_}
 use mathlib.Core.Bool.{true, false}
 use mathlib.Core.List.{List, [], _∷_}
-use Prim.Native.Nat.{ℕ, suc, _+_, _≤_, _<_, min, max}
+use Prim.Native.Nat.{ℕ, _≤_, _<_, min, max}
 use native.Mathlib.Decide.{decLt}
 use native.Mathlib.Omega.{arith}
-use native.Mathlib.Numerals.{add-one}
 use lib.ListN.{length, getD, set}
 use Rattle.rules.specs.declared.Op.{Op}
 use Rattle.rules.specs.declared.Op.the-variants.{Either, Both, Without, Chain}
 use Rattle.rules.proofs.Decisions.{pick-yes, pick-no}
 use Rattle.detector.specs.Memory.{Span}
 use Rattle.detector.specs.Choice.{choose}
-use Rattle.detector.specs.Step.{later}
 use Rattle.cell.specs.Words.{spanAt}
-use Rattle.cell.specs.Cell.{pairsOf, cellAnswer, cellAfter}
+use Rattle.cell.specs.Cell.{pairsOf, becomes, cellAnswer, cellAfter}
 use Rattle.cell.specs.Pairs.{putSpan}
 use Rattle.cell.specs.Calls.{isCell, Stepped, StepAnswers, Renewed, keptAfter}
 
 -- the answer where it starts strictly later, else the pair
-module _ (p : Span) (a t : ℕ) where
-  pub later-answer : p .start < a → _≡_ {A = Span} (record { start = a; end = t + 1 }) (later p a t)
-  unfolding later
-  later-answer h = rw (add-one t) (sym (pick-yes (decLt (p .start) a) (record { start = a; end = suc t }) p h))
+module _ (p : Span) (a e : ℕ) where
+  pub becomes-answer : p .start < a → _≡_ {A = Span} (record { start = a; end = e }) (becomes p a e)
+  unfolding becomes
+  becomes-answer h = sym (pick-yes (decLt (p .start) a) (record { start = a; end = e }) p h)
 
-  pub later-left : a ≤ p .start → p ≡ later p a t
-  unfolding later
-  later-left h = sym (pick-no (decLt (p .start) a) (record { start = a; end = suc t }) p (λ k. omega arith))
+  pub becomes-left : a ≤ p .start → p ≡ becomes p a e
+  unfolding becomes
+  becomes-left h = sym (pick-no (decLt (p .start) a) (record { start = a; end = e }) p (λ k. omega arith))
 
 -- a pair read, the later, and that stored
-pub renewed : (c c′ : List ℕ) (at a t : ℕ) (q p : Span) → q ≡ spanAt c at → p ≡ later q a t → c′ ≡ putSpan c at p → Renewed c at a t c′ (p .start)
+pub renewed : (c c′ : List ℕ) (at a t : ℕ) (q p : Span) → q ≡ spanAt c at → p ≡ becomes q a t → c′ ≡ putSpan c at p → Renewed c at a t c′ (p .start)
 renewed c c′ at a t q p read made put =
-    let e : p ≡ later (spanAt c at) a t = made ∙ ap (λ (k : Span). later k a t) read in
+    let e : p ≡ becomes (spanAt c at) a t = made ∙ ap (λ (k : Span). becomes k a t) read in
     record { start = ap (λ (k : Span). k .start) e; words = put ∙ ap (putSpan c at) e }
 
 -- `+`: left and right renewed
@@ -40,11 +38,11 @@ pub both-stepped :
     → r ≡ max (min x right) (min left y) → Stepped Both t x y ys c c₂ r
 unfolding cellAnswer cellAfter
 both-stepped t x y ys (a ∷ b ∷ d ∷ e ∷ []) c₁ c₂ left right r n l k h =
-    let s : right ≡ later (record { start = d; end = e }) y t .start =
-    k .start ∙ ap (λ (z : List ℕ). later (spanAt z 2) y t .start) (l .words) in
+    let s : right ≡ becomes (record { start = d; end = e }) y t .start =
+    k .start ∙ ap (λ (z : List ℕ). becomes (spanAt z 2) y t .start) (l .words) in
     record {
       answer = rw (← s, ← l .start) h;
-      after = k .words ∙ ap (λ (z : List ℕ). putSpan z 2 (later (spanAt z 2) y t)) (l .words);
+      after = k .words ∙ ap (λ (z : List ℕ). putSpan z 2 (becomes (spanAt z 2) y t)) (l .words);
     }
 both-stepped t x y ys [] c₁ c₂ left right r n l k h = absurd (omega arith)
 both-stepped t x y ys (a ∷ []) c₁ c₂ left right r n l k h = absurd (omega arith)
@@ -83,7 +81,7 @@ unfolding cellAnswer cellAfter
 chain-stepped t x y ys (a ∷ b ∷ l) c₁ c₂ start r n k h e =
     record {
       answer = e;
-      after = h .words ∙ ap (λ (z : List ℕ). putSpan z 0 (later (spanAt z 0) x t)) k;
+      after = h .words ∙ ap (λ (z : List ℕ). putSpan z 0 (becomes (spanAt z 0) x t)) k;
     }
 chain-stepped t x y ys [] c₁ c₂ start r n k h e = absurd (omega arith)
 chain-stepped t x y ys (a ∷ []) c₁ c₂ start r n k h e = absurd (omega arith)

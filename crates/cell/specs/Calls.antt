@@ -2,17 +2,15 @@
 use mathlib.Core.Path.{_≡_}
 use mathlib.Core.Bool.{Bool, false, cond}
 use mathlib.Core.List.{List, _++_}
-use Prim.Native.Nat.{ℕ, _+_, _-_, _*_, _/_, _%_, _≤_, _<_}
+use Prim.Native.Nat.{ℕ, _+_, _-_, _*_, _/_, _%_, _≤_}
 use lib.Dec.{leb, eqb}
 use lib.ListN.{length, take, drop}
 use Rattle.rules.specs.declared.Op.{Op}
-use Rattle.rules.specs.Limits.{ticks}
 use Rattle.detector.specs.Memory.{Span}
 use Rattle.detector.specs.Choice.{gather}
-use Rattle.detector.specs.Step.{later}
 use Rattle.detector.specs.Form.{Sorted}
 use Rattle.cell.specs.Words.{spanAt, keptWords}
-use Rattle.cell.specs.Cell.{cellWords, pairsOf, cellAnswer, cellAfter, cellStarts}
+use Rattle.cell.specs.Cell.{cellWords, pairsOf, becomes, cellAnswer, cellAfter, cellStarts}
 use Rattle.cell.specs.Form.{sizeFits}
 use Rattle.cell.specs.Pairs.{spansFrom, putSpan}
 
@@ -26,25 +24,24 @@ unfoldable pub isCell : Op → ℕ → ℕ → Bool
 isCell op y n = cond (eqb n (cellWords op y)) (leb n 126) false
 
 -- a tick may step the cell c of the operator, where ys are y's possible starts
-pub record StepReady (op : Op) (t : ℕ) (ys c : List ℕ) : Type 0 where
-  pub range : t < ticks
+pub record StepReady (op : Op) (ys c : List ℕ) : Type 0 where
   pub few : length ys ≤ 62
   pub words : length c ≡ cellWords op (length ys)
 
 -- the answer is r, and the cell became c′
-pub record Stepped (op : Op) (t x y : ℕ) (ys c c′ : List ℕ) (r : ℕ) : Type 0 where
-  pub answer : r ≡ cellAnswer op t x y c
-  pub after : c′ ≡ cellAfter op t x y ys c
+pub record Stepped (op : Op) (e x y : ℕ) (ys c c′ : List ℕ) (r : ℕ) : Type 0 where
+  pub answer : r ≡ cellAnswer op e x y c
+  pub after : c′ ≡ cellAfter op e x y ys c
 
 -- the operator's cell is stepped; any other words are left as they were, and the answer is 0
-pub record StepAnswers (op : Op) (t x y : ℕ) (ys c c′ : List ℕ) (r : ℕ) : Type 0 where
-  pub answer : r ≡ cond (isCell op (length ys) (length c)) (cellAnswer op t x y c) 0
-  pub after : c′ ≡ cond (isCell op (length ys) (length c)) (cellAfter op t x y ys c) c
+pub record StepAnswers (op : Op) (e x y : ℕ) (ys c c′ : List ℕ) (r : ℕ) : Type 0 where
+  pub answer : r ≡ cond (isCell op (length ys) (length c)) (cellAnswer op e x y c) 0
+  pub after : c′ ≡ cond (isCell op (length ys) (length c)) (cellAfter op e x y ys c) c
 
 -- the pair at a place became the answer a where that starts strictly later, and r is its start
-pub record Renewed (c : List ℕ) (at a t : ℕ) (c′ : List ℕ) (r : ℕ) : Type 0 where
-  pub start : r ≡ later (spanAt c at) a t .start
-  pub words : c′ ≡ putSpan c at (later (spanAt c at) a t)
+pub record Renewed (c : List ℕ) (at a e : ℕ) (c′ : List ℕ) (r : ℕ) : Type 0 where
+  pub start : r ≡ becomes (spanAt c at) a e .start
+  pub words : c′ ≡ putSpan c at (becomes (spanAt c at) a e)
 
 -- latest and the kept pairs are the first n
 pub record PairsIn (c : List ℕ) (n : ℕ) : Type 0 where

@@ -9,7 +9,6 @@ use Rattle.rules.specs.declared.Op.the-variants.{Either, Both, Without, Chain}
 use Rattle.rules.specs.Decisions.{pick}
 use Rattle.detector.specs.Memory.{Span}
 use Rattle.detector.specs.Choice.{choose, gather}
-use Rattle.detector.specs.Step.{later}
 use Rattle.cell.specs.Words.{spanWords, spanAt, keptWords, keptOf, startsIn}
 
 -- the words of an operator's cell, where its right operand has p(y)
@@ -30,19 +29,23 @@ possible Chain x y = x + y + 1
 abbrev pub pairsOf : List ℕ → List Span
 pairsOf c = spanAt c 0 ∷ keptOf (drop 2 c)
 
--- the answer at t, from the operands' answers x and y and the cell as it was
+-- the pair becomes the answer a, with its end word e, where that starts strictly later
+unfoldable pub becomes : Span → ℕ → ℕ → Span
+becomes q a e = pick (decLt (q .start) a) (record { start = a; end = e }) q
+
+-- the answer, from the operands' answers x and y and the cell as it was; e is the end word of the tick, t + 1
 unfoldable pub cellAnswer : Op → ℕ → ℕ → ℕ → List ℕ → ℕ
-cellAnswer Either t x y c = max x y
-cellAnswer Both t x y c = max (min x (later (spanAt c 2) y t .start)) (min (later (spanAt c 0) x t .start) y)
-cellAnswer Without t x y c = pick (decLt (max (getD c 0 0) y) x) x 0
-cellAnswer Chain t x y c = choose (pairsOf c) y .start
+cellAnswer Either e x y c = max x y
+cellAnswer Both e x y c = max (min x (becomes (spanAt c 2) y e .start)) (min (becomes (spanAt c 0) x e .start) y)
+cellAnswer Without e x y c = pick (decLt (max (getD c 0 0) y) x) x 0
+cellAnswer Chain e x y c = choose (pairsOf c) y .start
 
 -- the cell after the tick; ys are y's possible starts after its own step
 unfoldable pub cellAfter : Op → ℕ → ℕ → ℕ → List ℕ → List ℕ → List ℕ
-cellAfter Either t x y ys c = c
-cellAfter Both t x y ys c = spanWords (later (spanAt c 0) x t) ++ spanWords (later (spanAt c 2) y t)
-cellAfter Without t x y ys c = max (getD c 0 0) y ∷ []
-cellAfter Chain t x y ys c = spanWords (later (spanAt c 0) x t) ++ keptWords (length ys) (gather (pairsOf c) ys)
+cellAfter Either e x y ys c = c
+cellAfter Both e x y ys c = spanWords (becomes (spanAt c 0) x e) ++ spanWords (becomes (spanAt c 2) y e)
+cellAfter Without e x y ys c = max (getD c 0 0) y ∷ []
+cellAfter Chain e x y ys c = spanWords (becomes (spanAt c 0) x e) ++ keptWords (length ys) (gather (pairsOf c) ys)
 
 -- the possible starts that the cell adds to its operands'
 unfoldable pub cellStarts : Op → List ℕ → List ℕ

@@ -48,10 +48,10 @@ pub fn in_form(op: Op, cell: &[u64], next: u64) -> bool
     }
 }
 
-// Steps a cell at a tick t and gives the answer, from the answers x and y of its operands and the possible starts of the right one.
+// Steps a cell and gives the answer, from the answers x and y of its operands, the possible starts of the right one, and the tick's end word, t + 1.
 // The operands' own steps come first. Words that are not the operator's cell for these starts are left as they are, and the answer is 0.
-pub fn step(op: Op, cell: &mut [u64], starts: &[u64], x: u64, y: u64, t: u32) -> u64
-    ensures { λ r. ⌜ StepAnswers op t x y (now (starts .entry)) (now (cell .entry)) (now (cell .exit)) r ⌝ }
+pub fn step(op: Op, cell: &mut [u64], starts: &[u64], x: u64, y: u64, end: u64) -> u64
+    ensures { λ r. ⌜ StepAnswers op end x y (now (starts .entry)) (now (cell .entry)) (now (cell .exit)) r ⌝ }
 {
     match op {
         Op::Either => {
@@ -62,7 +62,7 @@ pub fn step(op: Op, cell: &mut [u64], starts: &[u64], x: u64, y: u64, t: u32) ->
         }
         Op::Both => {
             if cell.len() == 4 {
-                return stepping::both_step(cell, x, y, t as u64);
+                return stepping::both_step(cell, x, y, end);
             }
             0
         }
@@ -74,7 +74,7 @@ pub fn step(op: Op, cell: &mut [u64], starts: &[u64], x: u64, y: u64, t: u32) ->
         }
         Op::Chain => {
             if stepping::is_chain(starts.len(), cell.len()) {
-                return stepping::chain_step(cell, starts, x, y, t as u64);
+                return stepping::chain_step(cell, starts, x, y, end);
             }
             0
         }

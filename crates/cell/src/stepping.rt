@@ -7,10 +7,8 @@ ghost use native.Mathlib.Decide.{decLt};
 ghost use lib.ListN.{length};
 ghost use Rattle.rules.specs.declared.Op.the-variants.{Both, Without, Chain};
 ghost use Rattle.rules.specs.Decisions.{pick};
-ghost use Rattle.rules.specs.Limits.{ticks};
 ghost use Rattle.detector.specs.Choice.{choose};
-ghost use Rattle.detector.specs.Step.{later};
-ghost use Rattle.cell.specs.Cell.{pairsOf};
+ghost use Rattle.cell.specs.Cell.{pairsOf, becomes};
 ghost use Rattle.cell.specs.Pairs.{spanOf};
 ghost use Rattle.cell.specs.Calls.{isCell, StepReady, Stepped, Renewed};
 ghost use Rattle.cell.specs.Calls.{keptAfter};
@@ -26,19 +24,19 @@ pub(crate) fn is_chain(y: usize, n: usize) -> bool
 }
 
 // The greater of min(x, right) and min(left, y), left and right as they become.
-pub(crate) fn both_step(cell: &mut [u64], x: u64, y: u64, t: u64) -> u64
-    requires { ⌜ (length (now cell) ≡ 4) × (t < ticks) ⌝ }
-    ensures { λ r. ⌜ ((ys : List ℕ) → Stepped Both t x y ys (now (cell .entry)) (now (cell .exit)) r) ⌝ }
+pub(crate) fn both_step(cell: &mut [u64], x: u64, y: u64, end: u64) -> u64
+    requires { ⌜ length (now cell) ≡ 4 ⌝ }
+    ensures { λ r. ⌜ ((ys : List ℕ) → Stepped Both end x y ys (now (cell .entry)) (now (cell .exit)) r) ⌝ }
 {
-    let left = renew(cell, 0, x, t);
-    let right = renew(cell, 2, y, t);
+    let left = renew(cell, 0, x, end);
+    let right = renew(cell, 2, y, end);
     larger(lesser(x, right), lesser(left, y))
 }
 
 // The answer of x stands if it starts strictly later than the latest start of y seen.
 pub(crate) fn without_step(cell: &mut [u64], x: u64, y: u64) -> u64
     requires { ⌜ length (now cell) ≡ 1 ⌝ }
-    ensures { λ r. ⌜ ((t : ℕ) (ys : List ℕ) → Stepped Without t x y ys (now (cell .entry)) (now (cell .exit)) r) ⌝ }
+    ensures { λ r. ⌜ ((e : ℕ) (ys : List ℕ) → Stepped Without e x y ys (now (cell .entry)) (now (cell .exit)) r) ⌝ }
 {
     let seen = larger(cell[0], y);
     cell[0] = seen;
@@ -49,12 +47,12 @@ pub(crate) fn without_step(cell: &mut [u64], x: u64, y: u64) -> u64
 }
 
 // The answer and the new kept pairs are chosen from the kept pairs and latest as they were; only then is latest renewed.
-pub(crate) fn chain_step(cell: &mut [u64], starts: &[u64], x: u64, y: u64, t: u64) -> u64
-    requires { ⌜ StepReady Chain t (now starts) (now cell) ⌝ }
-    ensures { λ r. ⌜ Stepped Chain t x y (now (starts .entry)) (now (cell .entry)) (now (cell .exit)) r ⌝ }
+pub(crate) fn chain_step(cell: &mut [u64], starts: &[u64], x: u64, y: u64, end: u64) -> u64
+    requires { ⌜ StepReady Chain (now starts) (now cell) ⌝ }
+    ensures { λ r. ⌜ Stepped Chain end x y (now (starts .entry)) (now (cell .entry)) (now (cell .exit)) r ⌝ }
 {
     let answer = choose_and_keep(cell, starts, y);
-    renew(cell, 0, x, t);
+    renew(cell, 0, x, end);
     answer
 }
 
@@ -94,26 +92,25 @@ pub(crate) fn lesser(a: u64, b: u64) -> u64
     if a < b { a } else { b }
 }
 
-// Replaces the pair at a place by the answer at t if that starts strictly later; gives the start then.
+// Replaces the pair at a place by the answer, with its end word, if that starts strictly later; gives the start then.
 // It is stored either way: whether an answer comes is unpredictable, so a branch is slow.
-pub(crate) fn renew(cell: &mut [u64], at: usize, answer: u64, t: u64) -> u64
-    requires { ⌜ (at + 1 < length (now cell)) × (t < ticks) ⌝ }
-    ensures { λ r. ⌜ Renewed (now (cell .entry)) at answer t (now (cell .exit)) r ⌝ }
+pub(crate) fn renew(cell: &mut [u64], at: usize, answer: u64, end: u64) -> u64
+    requires { ⌜ at + 1 < length (now cell) ⌝ }
+    ensures { λ r. ⌜ Renewed (now (cell .entry)) at answer end (now (cell .exit)) r ⌝ }
 {
-    let pair = later_of(crate::pair::pair_at(cell, at), answer, t);
+    let pair = later_of(crate::pair::pair_at(cell, at), answer, end);
     crate::pair::put_pair(cell, at, pair);
     pair.start
 }
 
-// The pair of an answer at t if that starts strictly later than another, else the other.
-pub(crate) fn later_of(p: Pair, answer: u64, t: u64) -> Pair
-    requires { ⌜ t < ticks ⌝ }
-    ensures { λ r. ⌜ spanOf r ≡ later (spanOf p) answer t ⌝ }
+// The pair of an answer and its end word if that starts strictly later than another pair, else the other.
+pub(crate) fn later_of(p: Pair, answer: u64, end: u64) -> Pair
+    ensures { λ r. ⌜ spanOf r ≡ becomes (spanOf p) answer end ⌝ }
 {
     if p.start < answer {
         return Pair {
             start: answer,
-            end: t + 1,
+            end: end,
         };
     }
     p

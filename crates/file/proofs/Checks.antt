@@ -19,7 +19,7 @@ use Rattle.file.specs.declared.FileCheck.{FileCheck}
 use Rattle.file.specs.declared.FileCheck.the-variants.{Sound, Refused}
 use Rattle.file.specs.Contents.{named, below, bodyBytes, nameBytes, contentsBytes, bodiesAt, total}
 use Rattle.file.specs.Check.{entryKept, brokenEntry, brokenBody, onEntry, bodiesCheck, partsCheck}
-use Rattle.file.specs.Check.{countsIn, contentKept, brokenContent, restCheck, checkOf}
+use Rattle.file.specs.Check.{countsIn, contentKept, brokenContent, restCheck, fileCheck}
 use Rattle.file.specs.Judged.{EntryRight}
 
 -- an entry is refused, or what follows decides
@@ -169,17 +169,17 @@ sound-rest count f s =
     ∙ rw (s .kept) (sound-bodies (countsIn f count) (drop (contentsBytes * count) f) (s .valid))
 
 -- a file by its count
-pub check-none : (f : List ℕ) → length f ≡ 0 → Refused Count ≡ checkOf f
-unfolding checkOf
+pub check-none : (f : List ℕ) → length f ≡ 0 → Refused Count ≡ fileCheck f
+unfolding fileCheck
 check-none [] h = refl
 check-none (x ∷ f) h = absurd (omega arith)
 
-pub check-rest : (f : List ℕ) → checkOf f ≡ restCheck (getD f 0 0) (drop 1 f)
-unfolding checkOf
+pub check-rest : (f : List ℕ) → fileCheck f ≡ restCheck (getD f 0 0) (drop 1 f)
+unfolding fileCheck
 check-rest [] = rest-none 0 [] (omega arith)
 check-rest (x ∷ f) = refl
 
-pub check-count : (f : List ℕ) → 1 ≤ length f → restCheck (getD f 0 0) (drop 1 f) ≡ checkOf f
+pub check-count : (f : List ℕ) → 1 ≤ length f → restCheck (getD f 0 0) (drop 1 f) ≡ fileCheck f
 check-count f h = sym (check-rest f)
 
 -- the test of an entry passes exactly if the entry keeps its rules

@@ -16,7 +16,7 @@ use Rattle.body.proofs.Bytes.{value-drop, value-bytes, bytes-value}
 use Rattle.file.specs.declared.FileCheck.the-variants.{Sound}
 use Rattle.file.specs.declared.Place.the-variants.{At}
 use Rattle.file.specs.Contents.{bodyBytes, nameBytes, contentsBytes, bodiesAt, nameOf, contentOf, contents, fileOf, total}
-use Rattle.file.specs.Check.{brokenEntry, namesIn, countsIn, contentKept, brokenContent, partsCheck, checkOf}
+use Rattle.file.specs.Check.{brokenEntry, namesIn, countsIn, contentKept, brokenContent, partsCheck, fileCheck}
 use Rattle.file.specs.Place.{placeIn}
 use Rattle.file.specs.Claim.{PartsOf, Parts}
 use Rattle.file.proofs.Checks.{entries-first, entries-small, content-kept, contents-first, length-counts}
@@ -259,13 +259,13 @@ module _ (names counts bodies : List ℕ) (s : PartsSound names counts bodies) w
   }
 
 -- what the writer writes is accepted
-pub written-sound : (names counts bodies : List ℕ) → partsCheck names counts bodies ≡ Sound → checkOf (fileOf names counts bodies) ≡ Sound
-unfolding checkOf
+pub written-sound : (names counts bodies : List ℕ) → partsCheck names counts bodies ≡ Sound → fileCheck (fileOf names counts bodies) ≡ Sound
+unfolding fileCheck
 written-sound names counts bodies p = sound-rest (length counts) _ (rest-made names counts bodies (parts-sound names counts bodies p))
 
 -- the parts of a file that is accepted
-pub accepted-parts : (f : List ℕ) → Bytes f → checkOf f ≡ Sound → Parts f
-unfolding checkOf
+pub accepted-parts : (f : List ℕ) → Bytes f → fileCheck f ≡ Sound → Parts f
+unfolding fileCheck
 accepted-parts [] w p = impossible cc
 accepted-parts (count ∷ f) w p =
     let k = rest-sound count f p in

@@ -20,7 +20,7 @@ use Rattle.file.specs.declared.Finding.the-variants.{Broken, Refused}
 use Rattle.file.specs.declared.Place.{Place}
 use Rattle.file.specs.declared.Place.the-variants.{Nowhere}
 use Rattle.file.specs.Contents.{nameBytes, contentsBytes, bodiesAt}
-use Rattle.file.specs.Check.{checkOf}
+use Rattle.file.specs.Check.{fileCheck}
 use Rattle.file.specs.Place.{placeIn, patternCount, bodyPlace}
 use Rattle.file.specs.Lookup.{same, seek, placed, inFile, findingOf}
 use Rattle.file.proofs.Checks.{rest-sound}
@@ -33,12 +33,12 @@ pub record Sought (file name : List ℕ) (count i at : ℕ) : Type 0 where
   pub rest : seek (drop at file) name (count - i) ≡ placed file name
 
 -- a sound file has a count
-pub sound-long : (file : List ℕ) → checkOf file ≡ Checks.Sound → 1 + contentsBytes * getD file 0 0 ≤ length file
-unfolding checkOf
+pub sound-long : (file : List ℕ) → fileCheck file ≡ Checks.Sound → 1 + contentsBytes * getD file 0 0 ≤ length file
+unfolding fileCheck
 sound-long [] p = impossible cc
 sound-long (x ∷ f) p = omega (arith, rest-sound x f p .held)
 
-pub sought-none : (file name : List ℕ) (count : ℕ) → count ≡ getD file 0 0 → checkOf file ≡ Checks.Sound → Sought file name count 0 1
+pub sought-none : (file name : List ℕ) (count : ℕ) → count ≡ getD file 0 0 → fileCheck file ≡ Checks.Sound → Sought file name count 0 1
 sought-none [] name count e p = let z = sound-long [] p in absurd (omega arith)
 sought-none (x ∷ f) name count e p = record {
   held = omega (arith, sound-long (x ∷ f) p);
@@ -92,16 +92,16 @@ module _ (f : List ℕ) (i : ℕ) where
 
 -- the answer of a lookup, one law for each way out
 module _ (site fleet name : List ℕ) where
-  pub finding-site-broken : (r : Refusal) → checkOf site ≡ Checks.Refused r → Broken Site r ≡ findingOf site fleet name
+  pub finding-site-broken : (r : Refusal) → fileCheck site ≡ Checks.Refused r → Broken Site r ≡ findingOf site fleet name
   unfolding findingOf
   finding-site-broken r p = rw p
 
-  module _ (p : checkOf site ≡ Checks.Sound) where
-    pub finding-fleet-broken : (r : Refusal) → checkOf fleet ≡ Checks.Refused r → Broken Fleet r ≡ findingOf site fleet name
+  module _ (p : fileCheck site ≡ Checks.Sound) where
+    pub finding-fleet-broken : (r : Refusal) → fileCheck fleet ≡ Checks.Refused r → Broken Fleet r ≡ findingOf site fleet name
     unfolding findingOf
     finding-fleet-broken r q = rw (p, q)
 
-    module _ (q : checkOf fleet ≡ Checks.Sound) where
+    module _ (q : fileCheck fleet ≡ Checks.Sound) where
       pub finding-places : inFile (placed site name) Site (inFile (placed fleet name) Fleet (Refused Absent)) ≡ findingOf site fleet name
       unfolding findingOf
       finding-places = rw (p, q)

@@ -24,7 +24,7 @@ use Rattle.file.specs.declared.Finding.the-variants.{Found, Broken, Refu
 use Rattle.refusal.specs.declared.Refusal.{Refusal}
 use Rattle.refusal.specs.declared.Refusal.the-variants.{Absent}
 use Rattle.file.specs.Contents.{named, bodyBytes, nameBytes, contentsBytes, bodiesAt, total}
-use Rattle.file.specs.Check.{onFile, onBody, brokenBody, countsIn, brokenContent, checkOf}
+use Rattle.file.specs.Check.{onFile, onBody, brokenBody, countsIn, brokenContent, fileCheck}
 use Rattle.file.specs.Lookup.{same, seek, placed, inFile, findingOf, fileFrom, partOf}
 use Rattle.file.specs.Claim.{BrokenBy}
 use Rattle.file.proofs.Order.{same-true}
@@ -89,8 +89,8 @@ seek-found file before c name (suc k) offset i b from long p q r g s =
     go false u e here later s = later s
 
 -- the body with a name in a sound file
-pub placed-found : (file name : List ℕ) (from long : ℕ) → checkOf file ≡ Checks.Sound → placed file name ≡ At from long → BodyIn file name from long
-unfolding checkOf
+pub placed-found : (file name : List ℕ) (from long : ℕ) → fileCheck file ≡ Checks.Sound → placed file name ≡ At from long → BodyIn file name from long
+unfolding fileCheck
 placed-found [] name from long p s = impossible cc
 placed-found (count ∷ f) name from long p s =
     let k = rest-sound count f p in
@@ -123,7 +123,7 @@ pub finding-found : (site fleet name : List ℕ) (whose : Whose) (from long : �
     → BodyIn (fileFrom whose site fleet) name from long
 unfolding findingOf
 finding-found site fleet name whose from long p =
-    found-by (checkOf site) (checkOf fleet) (placed site name) (placed fleet name) whose from long p
+    found-by (fileCheck site) (fileCheck fleet) (placed site name) (placed fleet name) whose from long p
     (λ w f l. BodyIn (fileFrom w site fleet) name f l) (placed-found site name) (placed-found fleet name)
 
 -- a broken file is one that the check refused

@@ -19,7 +19,7 @@ use Rattle.rules.proofs.Impossible.{impossible}
 use Rattle.rules.specs.Limits.{argumentBytes, mostEntries}
 use Rattle.refusal.specs.declared.Refusal.{Refusal}
 use Rattle.refusal.specs.declared.Refusal.the-variants.{Count, Size}
-use Rattle.refusal.specs.Table.{entryOf, brokenAt}
+use Rattle.refusal.specs.Table.{entryNamed, brokenAt}
 use Rattle.body.specs.declared.BodyCheck.{BodyCheck}
 use Rattle.body.specs.declared.BodyCheck.the-variants as Bodies
 use Rattle.body.specs.Bytes.{valueAt}
@@ -118,7 +118,7 @@ bodies-one {counts} {bodies} (broken {b} {e} h l p) (broken {b = b′} {e = e′
     let q : Bodies.Refused (brokenAt 0 e) ≡ Bodies.Refused (brokenAt 0 e′) =
     sym p ∙ ap (λ (i : ℕ). bodyCheck argumentBytes (bodyOf counts bodies i)) same ∙ p′ in
     let r : brokenAt 0 e ≡ brokenAt 0 e′ = cc in
-    let place : e ≡ e′ = ap entryOf r in
+    let place : e ≡ e′ = ap entryNamed r in
     cc
 
 module _ (counts bodies : List ℕ) (whole : Whole counts bodies)

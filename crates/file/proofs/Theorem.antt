@@ -23,7 +23,7 @@ use Rattle.file.specs.declared.Finding.{Finding}
 use Rattle.file.specs.declared.Finding.the-variants.{Refused}
 use Rattle.file.specs.Contents.{nameByte, spaces, padded, named, below, bodyBytes, nameBytes, contentsBytes, bodiesAt}
 use Rattle.file.specs.Contents.{nameOf, fileOf, total, bodyAt, bodyOf}
-use Rattle.file.specs.Check.{entryKept, brokenEntry, brokenBody, bodiesCheck, partsCheck, countsIn, contentKept, brokenContent, restCheck, checkOf}
+use Rattle.file.specs.Check.{entryKept, brokenEntry, brokenBody, bodiesCheck, partsCheck, countsIn, contentKept, brokenContent, restCheck, fileCheck}
 use Rattle.file.specs.Write.{writingOf}
 use Rattle.file.specs.Place.{placeIn, patternCount, bodyPlace}
 use Rattle.file.specs.Lookup.{placed, findingOf, partOf}
@@ -43,8 +43,8 @@ use Rattle.file.proofs.Judges.{judged-exactly, parts-found, contents-fo
 pub written-accepted : WrittenAccepted
 written-accepted = written-sound
 
-parts-accepted : (f names counts bodies : List ℕ) → PartsOf f names counts bodies → checkOf f ≡ Sound
-parts-accepted f names counts bodies k = ap checkOf (k .same) ∙ written-sound names counts bodies (k .sound)
+parts-accepted : (f names counts bodies : List ℕ) → PartsOf f names counts bodies → fileCheck f ≡ Sound
+parts-accepted f names counts bodies k = ap fileCheck (k .same) ∙ written-sound names counts bodies (k .sound)
 
 pub accepted-exactly : AcceptedExactly
 accepted-exactly f w = (accepted-parts f w, λ k. parts-accepted f (k .names) (k .counts) (k .bodies) (k .parts))
@@ -121,11 +121,11 @@ absent-from-both site fleet name names counts bodies names′ counts′ bodies�
 pub broken-exactly : BrokenExactly
 unfolding findingOf
 broken-exactly site fleet name Site r = (
-  broken-by (checkOf site) (checkOf fleet) (placed site name) (placed fleet name) Site r,
+  broken-by (fileCheck site) (fileCheck fleet) (placed site name) (placed fleet name) Site r,
   λ p. sym (finding-site-broken site fleet name r p),
 )
 broken-exactly site fleet name Fleet r = (
-  broken-by (checkOf site) (checkOf fleet) (placed site name) (placed fleet name) Fleet r,
+  broken-by (fileCheck site) (fileCheck fleet) (placed site name) (placed fleet name) Fleet r,
   λ p. sym (finding-fleet-broken site fleet name (p .0) r (p .1)),
 )
 
@@ -217,6 +217,6 @@ writer-refuses names counts bodies room r = refused-by (partsCheck names counts 
 
 -- by computing
 pub smallest-file : SmallestFile
-unfolding checkOf restCheck brokenContent contentKept entryKept named padded spaces nameByte below valueAt
+unfolding fileCheck restCheck brokenContent contentKept entryKept named padded spaces nameByte below valueAt
     bodiesCheck countsIn total brokenBody scan entries entriesBy entryAt entryOf depthOf
 smallest-file = refl

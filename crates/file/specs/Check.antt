@@ -85,6 +85,6 @@ restCheck count f =
     (Refused Count)) (Refused Count)) (Refused Count)
 
 -- the answer for a file: Count, Entry, Size, then Body
-unfoldable pub checkOf : List ℕ → FileCheck
-checkOf [] = Refused Count
-checkOf (count ∷ f) = restCheck count f
+unfoldable pub fileCheck : List ℕ → FileCheck
+fileCheck [] = Refused Count
+fileCheck (count ∷ f) = restCheck count f

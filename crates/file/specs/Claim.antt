@@ -19,7 +19,7 @@ use Rattle.file.specs.declared.Place.the-variants.{At}
 use Rattle.file.specs.declared.Finding.the-variants.{Found, Broken, Refused}
 use Rattle.file.specs.declared.Writing.the-variants.{Written, Refused as Unwritten}
 use Rattle.file.specs.Contents.{named, bodyBytes, nameBytes, nameOf, fileOf, bodyAt, bodyOf}
-use Rattle.file.specs.Check.{partsCheck, checkOf}
+use Rattle.file.specs.Check.{partsCheck, fileCheck}
 use Rattle.file.specs.Write.{writingOf, Wrote}
 use Rattle.file.specs.Place.{patternCount, bodyPlace}
 use Rattle.file.specs.Lookup.{findingOf, fileFrom, partOf}
@@ -42,7 +42,7 @@ pub record Parts (f : List ℕ) : Type 0 where
 
 -- a file is accepted exactly if the writer makes it from some parts, byte for byte
 abbrev pub AcceptedExactly : Type 0
-AcceptedExactly = (f : List ℕ) → Bytes f → checkOf f ≡ Sound ↔ Parts f
+AcceptedExactly = (f : List ℕ) → Bytes f → fileCheck f ≡ Sound ↔ Parts f
 
 -- and these parts are the only ones
 abbrev pub OneWay : Type 0
@@ -67,7 +67,7 @@ OneName =
 
 -- what the writer writes is accepted
 abbrev pub WrittenAccepted : Type 0
-WrittenAccepted = (names counts bodies : List ℕ) → partsCheck names counts bodies ≡ Sound → checkOf (fileOf names counts bodies) ≡ Sound
+WrittenAccepted = (names counts bodies : List ℕ) → partsCheck names counts bodies ≡ Sound → fileCheck (fileOf names counts bodies) ≡ Sound
 
 -- what a lookup finds is a valid body
 abbrev pub FoundBody : Type 0
@@ -94,7 +94,7 @@ Lacks names counts name = (j : ℕ) → j < length counts → nameOf names j ≡
 -- a name of the site file is found there, at the place of its own body
 abbrev pub FoundInSite : Type 0
 FoundInSite =
-    (site fleet names counts bodies : List ℕ) → PartsOf site names counts bodies → checkOf fleet ≡ Sound
+    (site fleet names counts bodies : List ℕ) → PartsOf site names counts bodies → fileCheck fleet ≡ Sound
     → (i : ℕ) → i < length counts
     → findingOf site fleet (nameOf names i) ≡ Found Site (bodyAt counts i) (bodyBytes (getD counts i 0))
 
@@ -120,11 +120,11 @@ BrokenBy site fleet Fleet r = (site ≡ Sound) × (fleet ≡ Unsound r)
 abbrev pub BrokenExactly : Type 0
 BrokenExactly =
     (site fleet name : List ℕ) (whose : Whose) (r : Refusal)
-    → findingOf site fleet name ≡ Broken whose r ↔ BrokenBy (checkOf site) (checkOf fleet) whose r
+    → findingOf site fleet name ≡ Broken whose r ↔ BrokenBy (fileCheck site) (fileCheck fleet) whose r
 
 -- with f as the site file, or as the fleet file of a site file that lacks the name, looking up name number i returns body number i, byte for byte
 pub record ReadsBack (f names counts bodies : List ℕ) : Type 0 where
-  pub in-site : (fleet : List ℕ) (i : ℕ) → checkOf fleet ≡ Sound → i < length counts
+  pub in-site : (fleet : List ℕ) (i : ℕ) → fileCheck fleet ≡ Sound → i < length counts
       → partOf (findingOf f fleet (nameOf names i)) f fleet ≡ bodyOf counts bodies i
   pub in-fleet : (site names′ counts′ bodies′ : List ℕ) (i : ℕ) → PartsOf site names′ counts′ bodies′ → i < length counts
       → Lacks names′ counts′ (nameOf names i)
@@ -158,8 +158,8 @@ WriterRefuses =
 
 -- the check of a file gives each answer exactly when the rules call for it
 abbrev pub FileJudged : Type 0
-FileJudged = (f : List ℕ) (r : FileCheck) → checkOf f ≡ r ↔ Judged (FileCounted f) (ContentRight f) (countsOf f) (bodiesOf f) r
+FileJudged = (f : List ℕ) (r : FileCheck) → fileCheck f ≡ r ↔ Judged (FileCounted f) (ContentRight f) (countsOf f) (bodiesOf f) r
 
 -- the smallest file, of the name W and the pattern `A`, is accepted
 abbrev pub SmallestFile : Type 0
-SmallestFile = checkOf (1 ∷ 87 ∷ 32 ∷ 32 ∷ 32 ∷ 32 ∷ 32 ∷ 32 ∷ 32 ∷ 13 ∷ 0 ∷ 1 ∷ 0 ∷ 0 ∷ 0 ∷ 0 ∷ 0 ∷ 0 ∷ []) ≡ Sound
+SmallestFile = fileCheck (1 ∷ 87 ∷ 32 ∷ 32 ∷ 32 ∷ 32 ∷ 32 ∷ 32 ∷ 32 ∷ 13 ∷ 0 ∷ 1 ∷ 0 ∷ 0 ∷ 0 ∷ 0 ∷ 0 ∷ 0 ∷ []) ≡ Sound

@@ -14,7 +14,7 @@ use Rattle.file.specs.declared.Place.the-variants.{At, Nowhere}
 use Rattle.file.specs.declared.Finding.{Finding}
 use Rattle.file.specs.declared.Finding.the-variants.{Found, Broken, Refused}
 use Rattle.file.specs.Contents.{nameBytes, contentsBytes}
-use Rattle.file.specs.Check.{onFile, checkOf}
+use Rattle.file.specs.Check.{onFile, fileCheck}
 use Rattle.file.specs.Place.{placeIn}
 
 -- whether two names have the same length and the same bytes
@@ -41,7 +41,7 @@ inFile (At from long) whose otherwise = Found whose from long
 -- the answer of a lookup: a file that is refused, the site file first; else the body in the site file, else that in the fleet file, else Absent
 unfoldable pub findingOf : List ℕ → List ℕ → List ℕ → Finding
 findingOf site fleet name =
-    onFile (checkOf site) (Broken Site) (onFile (checkOf fleet) (Broken Fleet) (inFile (placed site name) Site (inFile (placed fleet name) Fleet (Refused Absent))))
+    onFile (fileCheck site) (Broken Site) (onFile (fileCheck fleet) (Broken Fleet) (inFile (placed site name) Site (inFile (placed fleet name) Fleet (Refused Absent))))
 
 abbrev pub fileFrom : Whose → List ℕ → List ℕ → List ℕ
 fileFrom Site site fleet = site

@@ -6,12 +6,12 @@ use crate::contents;
 use crate::parts;
 ghost use mathlib.Core.Path.{_≡_};
 ghost use Rattle.file.specs.declared.FileCheck.the-variants.{Sound};
-ghost use Rattle.file.specs.Check.{checkOf};
+ghost use Rattle.file.specs.Check.{fileCheck};
 ghost use Rattle.file.specs.Lookup.{same, placed};
 
 // Where the body with this name is in a sound file.
 pub(crate) fn find(file: &[u8], name: &[u8]) -> Place
-    requires { ⌜ checkOf (now file) ≡ Sound ⌝ }
+    requires { ⌜ fileCheck (now file) ≡ Sound ⌝ }
     ensures { λ r. ⌜ r ≡ placed (now (file .entry)) (now (name .entry)) ⌝ }
 {
     let count = parts::wide(file[0]);

@@ -8,7 +8,7 @@ mod writer;
 use refusal::Refusal;
 ghost use mathlib.Core.Path.{_≡_};
 ghost use Prim.Native.Nat.{_<_};
-ghost use Rattle.file.specs.Check.{checkOf};
+ghost use Rattle.file.specs.Check.{fileCheck};
 ghost use Rattle.file.specs.Place.{patternCount, bodyPlace};
 ghost use Rattle.file.specs.Write.{Wrote};
 ghost use Rattle.file.specs.Lookup.{findingOf, partOf};
@@ -52,7 +52,7 @@ pub enum Finding {
 
 // Checks a file: its count, its contents, where it ends, and each body.
 pub fn check_file(file: &[u8]) -> FileCheck
-    ensures { λ r. ⌜ r ≡ checkOf (now (file .entry)) ⌝ }
+    ensures { λ r. ⌜ r ≡ fileCheck (now (file .entry)) ⌝ }
 {
     if file.len() == 0 {
         return FileCheck::Refused(Refusal::Count);

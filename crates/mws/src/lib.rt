@@ -19,7 +19,7 @@ ghost use Prim.Native.Nat.{_≤_};
 ghost use Rattle.rules.specs.Limits.{argumentBytes};
 ghost use Rattle.rules.specs.Bits.{onesBelow};
 ghost use Rattle.body.specs.Check.{checkOf};
-ghost use Rattle.file.specs.Check.{checkOf as fileCheckOf};
+ghost use Rattle.file.specs.Check.{fileCheck};
 ghost use Rattle.file.specs.Lookup.{findingOf};
 ghost use Rattle.file.specs.Write.{Wrote};
 ghost use Rattle.text.specs.Answer.{ReadingOf, PrintingOf};
@@ -74,7 +74,7 @@ pub extern "C" fn mws_text_print(body: &[u8], text: &mut [u8], written: &mut u64
 // Checks a pattern file.
 #[no_mangle]
 pub extern "C" fn mws_file_check(file: &[u8]) -> u64
-    ensures { λ r. ⌜ r ≡ statusOf (filed (fileCheckOf (now (file .entry)))) ⌝ }
+    ensures { λ r. ⌜ r ≡ statusOf (filed (fileCheck (now (file .entry)))) ⌝ }
 {
     match file::check_file(file) {
         FileCheck::Sound => 0,

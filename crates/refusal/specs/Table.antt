@@ -38,8 +38,8 @@ numberOf r = rowOf r .number
 abbrev pub placeOf : Refusal → ℕ
 placeOf r = rowOf r .place
 
-abbrev pub entryOf : Refusal → ℕ
-entryOf r = rowOf r .entry
+abbrev pub entryNamed : Refusal → ℕ
+entryNamed r = rowOf r .entry
 
 -- the refusal of an entry of a body
 abbrev pub brokenAt : ℕ → ℕ → Refusal
@@ -54,4 +54,4 @@ mostEntry = 2 ^ 8 - 1
 
 -- the status word: the number in bits 0-7, the place in bits 8-39, the entry in bits 40-47; what does not fit is the largest that does
 unfoldable pub packedOf : Refusal → ℕ
-packedOf r = numberOf r + 2 ^ 8 * min (placeOf r) mostPlace + 2 ^ 40 * min (entryOf r) mostEntry
+packedOf r = numberOf r + 2 ^ 8 * min (placeOf r) mostPlace + 2 ^ 40 * min (entryNamed r) mostEntry

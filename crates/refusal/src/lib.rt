@@ -1,7 +1,7 @@
 // The table of refusals: the number, the place and the entry of each, and the status word for C.
 ghost use mathlib.Core.Path.{_≡_};
 ghost use Prim.Native.Nat.{min};
-ghost use Rattle.refusal.specs.Table.{numberOf, placeOf, entryOf, packedOf};
+ghost use Rattle.refusal.specs.Table.{numberOf, placeOf, entryNamed, packedOf};
 
 // A refusal by its name in the table. `Syntax` holds the bytes before the fault, `Room` the length needed, the others an index.
 pub enum Refusal {
@@ -76,7 +76,7 @@ pub fn place(r: Refusal) -> u64
 
 // The entry that `Body` names, 0 for every other refusal.
 pub fn entry(r: Refusal) -> u64
-    ensures { λ n. ⌜ n ≡ entryOf r ⌝ }
+    ensures { λ n. ⌜ n ≡ entryNamed r ⌝ }
 {
     match r {
         Refusal::Body(fault) => fault.entry as u64,

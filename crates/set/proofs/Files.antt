@@ -16,7 +16,7 @@ use Rattle.body.proofs.Trees.{size-pos}
 use Rattle.body.proofs.Bodies.{length-encode, sound-pattern}
 use Rattle.file.specs.declared.FileCheck.the-variants.{Sound}
 use Rattle.file.specs.Contents.{bodyBytes, nameBytes, total, bodyAt, bodyOf}
-use Rattle.file.specs.Check.{brokenEntry, brokenBody, checkOf}
+use Rattle.file.specs.Check.{brokenEntry, brokenBody, fileCheck}
 use Rattle.file.specs.Place.{patternCount}
 use Rattle.file.proofs.Checks.{parts-sound, entry-kept, entries-first}
 use Rattle.file.proofs.Files.{accepted-parts, written-sound}
@@ -63,7 +63,7 @@ patterns-of before names (n ∷ counts) bodies i b p l q w =
       bodied = (e .1 .bodied, rest .bodied);
     }
 
-pub sound-holds : (f : List ℕ) → Bytes f → checkOf f ≡ Sound → (es : List Pattern) × Holds f es
+pub sound-holds : (f : List ℕ) → Bytes f → fileCheck f ≡ Sound → (es : List Pattern) × Holds f es
 sound-holds f w p =
     let k = accepted-parts f w p in
     let s = parts-sound (k .names) (k .counts) (k .bodies) (k .parts .sound) in
@@ -101,8 +101,8 @@ part-within : (l : List ℕ) (from long : ℕ) → 1 ≤ long → length (take l
 part-within l from long h e = omega (arith, length-take long (drop from l), length-drop from l)
 
 module _ {f : List ℕ} {es : List Pattern} (h : Holds f es) where
-  pub holds-sound : checkOf f ≡ Sound
-  holds-sound = ap checkOf (h .parts .same) ∙ written-sound (h .names) (sizes es) (bodiesOf es) (h .parts .sound)
+  pub holds-sound : fileCheck f ≡ Sound
+  holds-sound = ap fileCheck (h .parts .same) ∙ written-sound (h .names) (sizes es) (bodiesOf es) (h .parts .sound)
 
   pub holds-count : patternCount f ≡ length es
   holds-count = bodies-placed f (h .names) (sizes es) (bodiesOf es) (h .parts) .0 ∙ length-sizes es

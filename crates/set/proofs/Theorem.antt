@@ -14,7 +14,7 @@ use Rattle.refusal.specs.declared.Refusal.{Refusal}
 use Rattle.body.specs.Postfix.{encode, Bodied}
 use Rattle.body.proofs.Bodies.{one-pattern, length-encode}
 use Rattle.file.specs.declared.FileCheck.the-variants as Checked
-use Rattle.file.specs.Check.{checkOf}
+use Rattle.file.specs.Check.{fileCheck}
 use Rattle.file.proofs.Theorem.{one-way}
 use Rattle.watcher.specs.declared.Needed.the-variants as Needs
 use Rattle.watcher.specs.declared.Opening.the-variants as Opens
@@ -56,7 +56,7 @@ one-holds {f} {es} {es′} h h′ =
     same-patterns es es′ (h .bodied) (h′ .bodied) (k .1) (k .2)
 
 -- a file that holds patterns is not refused
-holds-refused : {f : List ℕ} {es : List Pattern} {r : Refusal} → Holds f es → checkOf f ≡ Checked.Refused r → ⊥
+holds-refused : {f : List ℕ} {es : List Pattern} {r : Refusal} → Holds f es → fileCheck f ≡ Checked.Refused r → ⊥
 holds-refused h q = let k = holds-sound h in impossible cc
 
 -- a set that was opened and then only ticked

@@ -11,7 +11,7 @@ use Rattle.refusal.specs.declared.Refusal.{Refusal}
 use Rattle.refusal.specs.declared.Refusal.the-variants.{Room}
 use Rattle.body.specs.Postfix.{encode, Bodied}
 use Rattle.file.specs.declared.FileCheck.the-variants as Checked
-use Rattle.file.specs.Check.{checkOf}
+use Rattle.file.specs.Check.{fileCheck}
 use Rattle.file.specs.Claim.{PartsOf}
 use Rattle.watcher.specs.declared.Needed.{Needed}
 use Rattle.watcher.specs.declared.Needed.the-variants as Needs
@@ -48,7 +48,7 @@ pub record Holds (f : List ℕ) (es : List Pattern) : Type 0 where
 -- the room of a file: that of all its patterns, or the file's refusal
 abbrev pub SetRoomAnswers : List ℕ → Needed → Type 0
 SetRoomAnswers f (Needs.Words n) = (es : List Pattern) × Holds f es × (n ≡ roomsOf es)
-SetRoomAnswers f (Needs.Refused r) = checkOf f ≡ Checked.Refused r
+SetRoomAnswers f (Needs.Refused r) = fileCheck f ≡ Checked.Refused r
 
 -- opened: the states of the file's patterns stand first, and the words beyond are kept
 pub record IsSetOpened (f old new : List ℕ) : Type 0 where
@@ -59,7 +59,7 @@ pub record IsSetOpened (f old new : List ℕ) : Type 0 where
 
 -- opening is refused as the file is; or, where that is sound, for want of room, with the words needed
 pub data SetOpenRefused (f old : List ℕ) (r : Refusal) : Type 0 where
-  unsound : checkOf f ≡ Checked.Refused r → SetOpenRefused f old r
+  unsound : fileCheck f ≡ Checked.Refused r → SetOpenRefused f old r
   short : (es : List Pattern) → Holds f es → length old < roomsOf es → r ≡ Room (roomsOf es) → SetOpenRefused f old r
 
 -- the promise of opening a set

@@ -1,8 +1,9 @@
 -- A tick over a state's words is the detector's: on a tree the machine gives its answer and writes the cells of the memory after it.
 -- Assumes nothing.
-use Prim.Native.Nat.{ℕ, suc, _≤_}
+use Prim.Native.Nat.{ℕ, suc, _+_, _≤_}
 use mathlib.Core.Path.{_≡_, refl, ap}
 use mathlib.Core.List.{List, _∷_, _++_, append-assoc, append-nil}
+use native.Mathlib.Numerals.{add-one}
 use lib.ListN.{length}
 use lib.Seq.{take-at, drop-at}
 use Rattle.rules.specs.declared.Op.{Op}
@@ -11,11 +12,11 @@ use Rattle.rules.specs.Pattern.{Pattern, event, pair, within}
 use Rattle.detector.specs.Memory.{Span, Memory}
 use Rattle.detector.specs.Possible.{p}
 use Rattle.detector.specs.Choice.{choose}
-use Rattle.detector.specs.Step.{answer, next}
+use Rattle.detector.specs.Step.{later, answer, next}
 use Rattle.detector.specs.Form.{Form}
 use Rattle.detector.proofs.Form.{in-form}
 use Rattle.body.specs.inner.Machine.{eval}
-use Rattle.cell.specs.Cell.{cellWords, cellAnswer, cellAfter}
+use Rattle.cell.specs.Cell.{cellWords, becomes, cellAnswer, cellAfter}
 use Rattle.cell.proofs.WordLaws.{kept-words}
 use Rattle.watcher.specs.State.{cells}
 use Rattle.watcher.specs.inner.Walk.{Value, tickPair, tickM}
@@ -43,25 +44,25 @@ next-right Chain x y m t w = refl
 
 -- an operator's answer, from its operands' and its own words
 own-answer : (τ : ℕ) (op : Op) (x y : Pattern) (m : Memory (pair op x y)) (t w : ℕ) → Form τ (pair op x y) m
-    → cellAnswer op t (answer x (left op x y m) t w) (answer y (right op x y m) t w) (own op x y m) ≡ answer (pair op x y) m t w
-unfolding cellAnswer answer
+    → cellAnswer op (t + 1) (answer x (left op x y m) t w) (answer y (right op x y m) t w) (own op x y m) ≡ answer (pair op x y) m t w
+unfolding cellAnswer answer becomes later
 own-answer τ Either x y m t w f = refl
-own-answer τ Both x y m t w f = refl
+own-answer τ Both x y m t w f = rw (add-one t)
 own-answer τ Without x y m t w f = refl
 own-answer τ Chain x y m t w f =
     ap (λ (l : List Span). choose (m .2 ∷ l) (answer y (m .1) t w) .start) (kept-words (p y) (m .3) (f .5) (f .4))
 
 -- its own words after the tick
 own-after : (τ : ℕ) (op : Op) (x y : Pattern) (m : Memory (pair op x y)) (t w : ℕ) → τ ≤ t → Form τ (pair op x y) m
-    → cellAfter op t (answer x (left op x y m) t w) (answer y (right op x y m) t w) (padded y (next y (right op x y m) t w)) (own op x y m)
+    → cellAfter op (t + 1) (answer x (left op x y m) t w) (answer y (right op x y m) t w) (padded y (next y (right op x y m) t w)) (own op x y m)
     ≡ own op x y (next (pair op x y) m t w)
-unfolding cellAfter next
+unfolding cellAfter next becomes later
 own-after τ Either x y m t w k f = refl
-own-after τ Both x y m t w k f = refl
+own-after τ Both x y m t w k f = rw (add-one t)
 own-after τ Without x y m t w k f = refl
 own-after τ Chain x y m t w k f =
     let m′ : Memory y = next y (m .1) t w in
-    rw (kept-words (p y) (m .3) (f .5) (f .4), length-padded y m′, gather-padded (suc t) y m′ (in-form t w τ k y (m .1) (f .1)) (m .2 ∷ m .3))
+    rw (add-one t, kept-words (p y) (m .3) (f .5) (f .4), length-padded y m′, gather-padded (suc t) y m′ (in-form t w τ k y (m .1) (f .1)) (m .2 ∷ m .3))
 
 -- an operator's step, from its operands' values and the words ahead
 pub tick-pair : (τ : ℕ) (op : Op) (x y : Pattern) (m : Memory (pair op x y)) (t w : ℕ) → τ ≤ t → Form τ (pair op x y) m

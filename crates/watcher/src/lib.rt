@@ -232,20 +232,9 @@ fn word_of(entry: Entry) -> u64
 {
     match entry {
         Entry::Letter(kind) => 256 * kind,
-        Entry::Pair(op) => op_number(op),
+        Entry::Pair(op) => body::op_number(op),
         Entry::Within(limit) => 5 + 256 * limit,
         Entry::Wrong => 255,
-    }
-}
-
-fn op_number(op: Op) -> u64
-    ensures { λ r. ⌜ r ≡ opNumber op ⌝ }
-{
-    match op {
-        Op::Either => 1,
-        Op::Both => 2,
-        Op::Without => 3,
-        Op::Chain => 4,
     }
 }
 

@@ -143,7 +143,7 @@ fn pair(
     let b = base[d];
     let top = base[d + 1];
     let end = at + cell::size(op, (top - b) as u8);
-    answers[d - 1] = cell::step(op, &mut state[at..end], &starts[b..top], x, y, t as u32);
+    answers[d - 1] = cell::step(op, &mut state[at..end], &starts[b..top], x, y, t + 1);
     base[d] = cell::put_starts(op, &state[at..end], starts, own_from(op, b, top));
     end
 }

@@ -1,7 +1,6 @@
 -- `cell::step` meets its contract: each arm is the case of `cellAnswer` and `cellAfter` where the words are its cell's, and else leaves them.
 -- Assumes nothing.
 use mathlib.Core.Path.{sym, _∙_}
-use native.Mathlib.Omega.{arith}
 use borrow.Author.Tests.{eq-eqb, ne-eqb}
 use Rattle.cell.proofs.Sizes.{is-either, is-both, is-without, is-chain-ready}
 use Rattle.cell.proofs.Steps.{either-stepped, step-answers, step-left}
@@ -34,7 +33,7 @@ chain-step-requires : tie.Need-chain-step-requires
 chain-step-requires c κs =
     let e = c .before in
     let u = is-chain-ready _ _ (sym (e .before .is-chain .ensures) ∙ e .if4 .taken) in
-    record { range = omega arith; few = u .0; words = u .1 }
+    record { few = u .0; words = u .1 }
 
 returns-4 : tie.Need-returns-4
 returns-4 c =

@@ -2,7 +2,7 @@
 use mathlib.Core.Path.{_≡_, refl, sym, _∙_}
 use Rattle.file.specs.declared.FileCheck.the-variants.{Sound}
 use Rattle.file.specs.declared.Place.the-variants.{Nowhere}
-use Rattle.file.specs.Check.{checkOf}
+use Rattle.file.specs.Check.{fileCheck}
 use Rattle.file.specs.Lookup.{placed}
 use Rattle.file.proofs.Finds.{finding-site-broken, finding-fleet-broken, finding-by}
 use borrow.Author.Needs.{needs}
@@ -13,11 +13,11 @@ enum-told : tie.Need-enum-told
 enum-told c = search needs
 
 -- each file is sound wherever it was not refused
-site-sound : (m : tie.After-enum-told) → checkOf (m .before .before .before .before .before .before .args .site .now) ≡ Sound
+site-sound : (m : tie.After-enum-told) → fileCheck (m .before .before .before .before .before .before .args .site .now) ≡ Sound
 site-sound m = sym (m .before .before .check-file .ensures) ∙ m .enum-told .given .1
 
 fleet-sound : (n : tie.After-enum-told2)
-    → checkOf (n .before .before .before .before .before .before .before .before .before .args .fleet .now) ≡ Sound
+    → fileCheck (n .before .before .before .before .before .before .before .before .before .args .fleet .now) ≡ Sound
 fleet-sound n = sym (n .before .before .check-file2 .ensures) ∙ n .enum-told2 .given .1
 
 -- and lacks the name wherever none was found

@@ -12,7 +12,7 @@ use Rattle.detector.specs.Memory.{fresh}
 use Rattle.body.specs.Claim.{BodyOf}
 use Rattle.file.specs.declared.FileCheck.the-variants.{Sound}
 use Rattle.file.specs.declared.Place.the-variants.{At}
-use Rattle.file.specs.Check.{checkOf}
+use Rattle.file.specs.Check.{fileCheck}
 use Rattle.file.specs.Place.{bodyPlace}
 use Rattle.set.specs.declared.SetTicking.{SetTicking}
 use Rattle.set.specs.declared.SetTicking.the-variants.{Ticked, Refused}
@@ -23,7 +23,7 @@ use Rattle.set.specs.File.{Holds, roomsOf}
 
 -- a file is sound
 abbrev pub SoundFile : List ℕ → Type 0
-SoundFile f = checkOf f ≡ Sound
+SoundFile f = fileCheck f ≡ Sound
 
 -- n words are those of the states of a sound file's patterns
 pub record RoomSummed (f : List ℕ) (n : ℕ) : Type 0 where

@@ -89,14 +89,14 @@ module _ {op : Op} {s answers base starts : List ℕ} {d at t : ℕ} (p : PairRe
   lent-cell : isCell op (length ys) (length lent) ≡ true
   lent-cell = is-cell op (length ys) (length lent) (omega (arith, length-ys, p .few, p .starts-long)) (length-lent ∙ words-here)
 
-  module _ {new : List ℕ} {a : ℕ} (k : StepAnswers op t (getD answers (d - 1) 0) (getD answers d 0) ys lent new a) where
-    stepped : Stepped op t (getD answers (d - 1) 0) (getD answers d 0) ys lent new a
+  module _ {new : List ℕ} {a : ℕ} (k : StepAnswers op (t + 1) (getD answers (d - 1) 0) (getD answers d 0) ys lent new a) where
+    stepped : Stepped op (t + 1) (getD answers (d - 1) 0) (getD answers d 0) ys lent new a
     stepped = step-answered lent-cell k
 
     length-new : length new ≡ n
     length-new =
         ap length (stepped .after)
-        ∙ length-after op t (getD answers (d - 1) 0) (getD answers d 0) ys lent (length-lent ∙ words-here)
+        ∙ length-after op (t + 1) (getD answers (d - 1) 0) (getD answers d 0) ys lent (length-lent ∙ words-here)
         ∙ sym words-here
 
     back : take (at + n - at) (drop at (putMid at (at + n - at) s new)) ≡ new
@@ -126,7 +126,7 @@ module _ {op : Op} {s answers base starts : List ℕ} {d at t : ℕ} (p : PairRe
           let w : Pushed op new starts (ownFrom op b top) starts′ r =
           push-answered pushed-fit
           (subst (λ (z : ℕ). PushAnswers op new starts z starts′ r) o (subst (λ (z : List ℕ). PushAnswers op z starts f starts′ r) back g)) in
-          let e : new ≡ cellAfter op t x y ys was = stepped .after ∙ ap (cellAfter op t x y ys) lent-was in
+          let e : new ≡ cellAfter op (t + 1) x y ys was = stepped .after ∙ ap (cellAfter op (t + 1) x y ys) lent-was in
           let own : r ≡ b + length (startsAfter op [] ys new) =
           w .place ∙ pushed-end
           ∙ ap (λ (z : ℕ). b + z) (ap (possible op 0) (sym length-ys) ∙ sym (length-starts-after op [] ys new (length-new ∙ words-here))) in
@@ -135,7 +135,7 @@ module _ {op : Op} {s answers base starts : List ℕ} {d at t : ℕ} (p : PairRe
           record {
             place = ap (λ (z : ℕ). at + z) words-here;
             words = ap (λ (z : List ℕ). take at s ++ (new ++ z)) rest ∙ ap (λ (z : List ℕ). over at z s) e;
-            answered = ap (set answers (d - 1)) (stepped .answer ∙ ap (cellAnswer op t x y) lent-was);
+            answered = ap (set answers (d - 1)) (stepped .answer ∙ ap (cellAnswer op (t + 1) x y) lent-was);
             based = ap (set base d) (own ∙ ap (λ (z : List ℕ). b + length (startsAfter op [] ys z)) e);
             started =
                 w .starts

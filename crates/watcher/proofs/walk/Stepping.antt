@@ -148,13 +148,13 @@ module _ {deep many t w : ℕ} {old s answers base starts : List ℕ} {at D i : 
   cell = take n (drop at s)
 
   abbrev new : List ℕ
-  new = cellAfter op t (getD answers (D - 1) 0) (getD answers D 0) ys cell
+  new = cellAfter op (t + 1) (getD answers (D - 1) 0) (getD answers D 0) ys cell
 
   abbrev own : List ℕ
   own = startsAfter op [] ys new
 
   abbrev answer : ℕ
-  answer = cellAnswer op t (getD answers (D - 1) 0) (getD answers D 0) cell
+  answer = cellAnswer op (t + 1) (getD answers (D - 1) 0) (getD answers D 0) cell
 
   two : Walking t w old s i at (valueAt answers base starts D ∷ valueAt answers base starts (D - 1) ∷ values answers base starts (D - 1))
   two = subst (Walking t w old s i at) (values-two (x .laid) one) (x .walking)
@@ -164,7 +164,7 @@ module _ {deep many t w : ℕ} {old s answers base starts : List ℕ} {at D i : 
 
   length-new : length new ≡ n
   length-new =
-      length-after op t (getD answers (D - 1) 0) (getD answers D 0) ys cell
+      length-after op (t + 1) (getD answers (D - 1) 0) (getD answers D 0) ys cell
       (length-take-le n (drop at s) (omega (arith, length-drop at s, fits)))
 
   written : over at new s ≡ putMid at n s new

@@ -131,16 +131,16 @@ module _ {t w : ℕ} {old s : List ℕ} {i at : ℕ} {u v : Value} {st : List Va
   walking-cell = omega (arith, ready x h (Pair op) q, held-length old (state-long (x .form)) (x .held))
 
   pub walking-pair : (c : List ℕ) → c ≡ midOf at (cellWords op (length (v .1))) s
-      → Walking t w old (putMid at (cellWords op (length (v .1))) s (cellAfter op t (u .0) (v .0) (v .1) c))
+      → Walking t w old (putMid at (cellWords op (length (v .1))) s (cellAfter op (t + 1) (u .0) (v .0) (v .1) c))
       (i + 1) (at + cellWords op (length (v .1)))
-      ((cellAnswer op t (u .0) (v .0) c, startsAfter op (u .1) (v .1) (cellAfter op t (u .0) (v .0) (v .1) c)) ∷ st)
+      ((cellAnswer op (t + 1) (u .0) (v .0) c, startsAfter op (u .1) (v .1) (cellAfter op (t + 1) (u .0) (v .0) (v .1) c)) ∷ st)
   unfolding step tickPair
   walking-pair c e =
       let n : ℕ = cellWords op (length (v .1)) in
       let ahead : List ℕ = x .cells .1 in
       let k : c ≡ take n ahead = e ∙ ap (take n) (held-ahead old (state-long (x .form)) (x .held)) in
       let l : length c ≡ n = ap length k ∙ length-take-le n ahead (ready x h (Pair op) q) in
-      let c′ : List ℕ = cellAfter op t (u .0) (v .0) (v .1) c in
+      let c′ : List ℕ = cellAfter op (t + 1) (u .0) (v .0) (v .1) c in
       moved x h (Pair op) q (putMid at n s c′) (at + n)
-      ((cellAnswer op t (u .0) (v .0) c, startsAfter op (u .1) (v .1) c′) ∷ st) (x .cells .0 ++ c′, drop n ahead)
-      (rw k) (held-put old (state-long (x .form)) (x .held) n c′ (length-after op t (u .0) (v .0) (v .1) c l))
+      ((cellAnswer op (t + 1) (u .0) (v .0) c, startsAfter op (u .1) (v .1) c′) ∷ st) (x .cells .0 ++ c′, drop n ahead)
+      (rw k) (held-put old (state-long (x .form)) (x .held) n c′ (length-after op (t + 1) (u .0) (v .0) (v .1) c l))

@@ -75,10 +75,10 @@ pub record PairReady (op : Op) (s answers base starts : List ℕ) (d at t : ℕ)
 -- starts stand at the left operand's place, the cell is as it becomes, and r is the place after it
 pub record PairStepped (op : Op) (t x y : ℕ) (ys c s answers base starts : List ℕ) (d at : ℕ) (s′ answers′ base′ starts′ : List ℕ) (r : ℕ) : Type 0 where
   pub place : r ≡ at + cellWords op (length ys)
-  pub words : s′ ≡ over at (cellAfter op t x y ys c) s
-  pub answered : answers′ ≡ set answers (d - 1) (cellAnswer op t x y c)
-  pub based : base′ ≡ set base d (getD base d 0 + length (startsAfter op [] ys (cellAfter op t x y ys c)))
-  pub started : starts′ ≡ over (getD base d 0) (startsAfter op [] ys (cellAfter op t x y ys c)) starts
+  pub words : s′ ≡ over at (cellAfter op (t + 1) x y ys c) s
+  pub answered : answers′ ≡ set answers (d - 1) (cellAnswer op (t + 1) x y c)
+  pub based : base′ ≡ set base d (getD base d 0 + length (startsAfter op [] ys (cellAfter op (t + 1) x y ys c)))
+  pub started : starts′ ≡ over (getD base d 0) (startsAfter op [] ys (cellAfter op (t + 1) x y ys c)) starts
 
 abbrev pub PairDone : Op → List ℕ → List ℕ → List ℕ → List ℕ → ℕ → ℕ → ℕ → List ℕ → List ℕ → List ℕ → List ℕ → ℕ → Type 0
 PairDone op s answers base starts d at t s′ answers′ base′ starts′ r =

@@ -108,8 +108,8 @@ unfoldable pub tickPair : ℕ → Op → Value → Value → Cells → Value × 
 tickPair t op x y g =
     let n : ℕ = cellWords op (length (y .1)) in
     let c : List ℕ = take n (g .1) in
-    let c′ : List ℕ = cellAfter op t (x .0) (y .0) (y .1) c in
-    ((cellAnswer op t (x .0) (y .0) c, startsAfter op (x .1) (y .1) c′), (g .0 ++ c′, drop n (g .1)))
+    let c′ : List ℕ = cellAfter op (t + 1) (x .0) (y .0) (y .1) c in
+    ((cellAnswer op (t + 1) (x .0) (y .0) c, startsAfter op (x .1) (y .1) c′), (g .0 ++ c′, drop n (g .1)))
 
 -- a letter's answer, and a restriction's
 abbrev pub letterAnswer : ℕ → ℕ → ℕ → ℕ

@@ -9,7 +9,7 @@ returns c =
     λ ys.
     let d = c .before .before .before .before .before in
     let k = d .before .before .before .before in
-    both-stepped _ _ _ ys _ _ _ _ _ _ (k .before .before .before .pre .0) (k .renew .ensures) (d .renew2 .ensures) (cc)
+    both-stepped _ _ _ ys _ _ _ _ _ _ (k .before .before .before .pre) (k .renew .ensures) (d .renew2 .ensures) (cc)
 
 pub both-step-spec : {M : Type 1} → statement M
 both-step-spec =
