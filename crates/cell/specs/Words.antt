@@ -1,4 +1,4 @@
--- Pairs as words: start + 1 and end + 1, or 0,0 for none (docs/RULES.md, "Room and the watcher's state").
+-- Pairs as words: start + 1 and end + 1, or 0,0 for none (docs/RULES.md, "Room and state").
 -- Assumes nothing: these are definitions.
 use mathlib.Core.List.{List, [], _∷_}
 use Prim.Native.Nat.{ℕ, zero, suc, _+_}

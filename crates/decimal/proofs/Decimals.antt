@@ -54,10 +54,6 @@ pub decimal-next : (v d : ℕ) → 0 < v → d < 10 → decimal (v * 10 + d) ≡
 decimal-next v d p h =
     decimal-last (v * 10 + d) (omega arith) ∙ ap₂ (λ (a b : ℕ). decimal a ++ ((b + 48) ∷ [])) (omega arith) (omega arith)
 
-pub decimal-some : (n : ℕ) → 0 < length (decimal n)
-decimal-some n =
-    either-way n 10 (λ h. rw (decimal-one n h) (omega arith)) (λ h. rw (decimal-last n h) (simp length-append (omega arith)))
-
 -- a number below 10 ^ k has at most k digits
 pub decimal-length : (k n : ℕ) → n < tens (suc k) → length (decimal n) ≤ suc k
 decimal-length zero n h = rw (decimal-one n (omega arith)) (omega arith)
