@@ -1,4 +1,6 @@
 // Entries and bodies: what an entry stands for, and the check of a body.
+#![tactic(auto)]
+
 ghost use Rattle.std.specs.Prelude.{◌≡◌, ◌+◌, ◌<◌, length};
 ghost use Rattle.rules.specs.Limits.{argument_bytes};
 ghost use Rattle.body.specs.Bytes.{value_at};
@@ -9,7 +11,7 @@ use refusal::{Fault, Refusal};
 use rules::{ENTRY_BYTES, LAST_TICK, LETTERS, MOST_BODY, Op};
 
 // What an entry stands for: a letter, an operator on two patterns, a restriction; or it breaks a rule by itself.
-#[derive(Drop)]
+#[derive(Clone, Copy)]
 pub enum Entry {
     Letter(u64),
     Pair(Op),
@@ -18,14 +20,14 @@ pub enum Entry {
 }
 
 // How many trees stand after an entry, or that it lacks an operand.
-#[derive(Drop)]
+#[derive(Clone, Copy)]
 pub enum Depth {
     Lacks,
     To(u64),
 }
 
 // What the check of a body answers.
-#[derive(Drop)]
+#[derive(Clone, Copy)]
 pub enum BodyCheck {
     Sound,
     Refused(Refusal),

@@ -1,4 +1,6 @@
 // The cases at the edges that are run (docs/RULES.md). Each prints its name, then a refusal's number, place and entry: 0 0 0 if it is accepted.
+#![tactic(auto)]
+
 mod bodies;
 mod files;
 mod runs;

@@ -1,4 +1,6 @@
 // The cell of one operator: the words that it keeps between ticks, their form, and what a tick makes of them.
+#![tactic(auto)]
+
 mod form;
 mod kept;
 mod pair;

@@ -8,7 +8,7 @@ ghost use Rattle.cell.specs.Pairs.{span_of, spans_from, put_span};
 ghost use Rattle.cell.specs.Calls.{Paired, PairsIn};
 
 // A pair: start + 1 and end + 1, or 0 and 0 for none.
-#[derive(Drop)]
+#[derive(Clone, Copy)]
 pub(crate) struct Pair {
     pub(crate) start: u64,
     pub(crate) end: u64,

@@ -1,4 +1,6 @@
 // Numbers in decimal, written backwards, since the last digit of a number is found first.
+#![tactic(auto)]
+
 ghost use Rattle.std.specs.Prelude.{[], ◌∷◌};
 ghost use Rattle.decimal.specs.Decimal.{decimal};
 ghost use Rattle.decimal.specs.Backward.{Backward};

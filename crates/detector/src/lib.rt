@@ -1,1 +1,2 @@
 // The detector on trees: definitions and theorems, no code.
+#![tactic(auto)]

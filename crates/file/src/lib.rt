@@ -1,4 +1,6 @@
 // Pattern files: their check, their writer, and the lookup of a body in a site file and a fleet file.
+#![tactic(auto)]
+
 mod contents;
 mod finder;
 mod name;
@@ -19,28 +21,28 @@ pub const NAME_BYTES: usize = 8;
 pub const CONTENT_BYTES: usize = 12;
 
 // What the check of a file answers.
-#[derive(Drop)]
+#[derive(Clone, Copy)]
 pub enum FileCheck {
     Sound,
     Refused(Refusal),
 }
 
 // What the writer answers: the number of bytes written, or a refusal.
-#[derive(Drop)]
+#[derive(Clone, Copy)]
 pub enum Writing {
     Written(usize),
     Refused(Refusal),
 }
 
 // One of the two files of a lookup.
-#[derive(Drop)]
+#[derive(Clone, Copy)]
 pub enum Whose {
     Site,
     Fleet,
 }
 
 // Where a body is in a file: at which byte it begins, and how many bytes it has.
-#[derive(Drop)]
+#[derive(Clone, Copy)]
 pub enum Place {
     Nowhere,
     At(usize, usize),
@@ -48,7 +50,7 @@ pub enum Place {
 
 // What a lookup answers: the file that has the body, the byte at which the body begins, and how many bytes it has; or the file that is refused, with
 // its refusal; or Absent if the name is in neither file.
-#[derive(Drop)]
+#[derive(Clone, Copy)]
 pub enum Finding {
     Found(Whose, usize, usize),
     Broken(Whose, Refusal),
@@ -103,7 +105,7 @@ pub fn write_file(names: &[u8], counts: &[u8], bodies: &[u8], file: &mut [u8]) -
             }
             file[0] = counts.len() as u8;
             writer::write_contents(names, counts, &mut file[1..bodies_at]);
-            bytes::copy(bodies, &mut file[bodies_at..needed]);
+            copying::copy(bodies, &mut file[bodies_at..needed]);
             Writing::Written(needed)
         }
     }

@@ -34,7 +34,7 @@ fn write_entry(name: &[u8], offset: usize, n: u8, entry: &mut [u8])
     requires { EntryReady name.now entry.old }
     ensures { entry.new ≡ content_of name.now offset n }
 {
-    bytes::copy(name, &mut entry[0..NAME_BYTES]);
+    copying::copy(name, &mut entry[0..NAME_BYTES]);
     entry[8] = (offset % 256) as u8;
     entry[9] = (offset / 256 % 256) as u8;
     entry[10] = n;

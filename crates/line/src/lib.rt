@@ -1,4 +1,6 @@
 // The lines of the watch program: reading a tick's line, and writing those of a window, of the tally and of a refusal.
+#![tactic(auto)]
+
 mod reader;
 mod writer;
 
@@ -19,14 +21,14 @@ pub const MOST_WRITTEN: usize = 60;
 pub const MOST_TALLY: usize = 60;
 
 // What reading a line answers: the tick and its word of events, or why the line is refused.
-#[derive(Drop)]
+#[derive(Clone, Copy)]
 pub enum LineRead {
     Tick(u64, u32),
     Refused(Refusal),
 }
 
 // What writing a line answers: the bytes written, or why there are none.
-#[derive(Drop)]
+#[derive(Clone, Copy)]
 pub enum LineWritten {
     Written(usize),
     Refused(Refusal),

@@ -12,7 +12,7 @@ use rules::TICKS;
 const LETTERS: u8 = 32;
 
 // Where a number ends and its value, or that there is none.
-#[derive(Drop)]
+#[derive(Clone, Copy)]
 pub(crate) enum Decimal {
     Value(usize, u64),
     Bad,

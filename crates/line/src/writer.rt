@@ -22,7 +22,7 @@ pub(crate) fn write_line(one: &[u8], a: u64, two: &[u8], b: u64, out: &mut [u8])
     if out.len() < need {
         return LineWritten::Refused(Refusal::Room(need));
     }
-    bytes::copy(&made[from..], out);
+    copying::copy(&made[from..], out);
     LineWritten::Written(need)
 }
 

@@ -1,4 +1,6 @@
 // The calls for C (include/mws.h). A slice is a pointer and a count of elements; every call answers a status word and never stops its caller.
+#![tactic(auto)]
+
 ghost use Rattle.std.specs.Prelude.{◌≡◌, ◌≤◌};
 ghost use Rattle.rules.specs.Limits.{argument_bytes};
 ghost use Rattle.rules.specs.Bits.{ones_below};

@@ -1,4 +1,6 @@
 // The plain evaluator: every instance of every entry of a body in a record of at most 64 ticks.
+#![tactic(auto)]
+
 ghost use Rattle.std.specs.Prelude.{◌≡◌, ◌⊎◌, ℕ, ◌+◌, ◌-◌, ◌*◌, ◌≤◌, ◌<◌, length, get_or};
 ghost use Rattle.rules.specs.Bits.{On, ones_below};
 ghost use Rattle.rules.specs.Instances.{Occurs, Rule, Short};
@@ -15,14 +17,14 @@ use rules::{ENTRY_BYTES, MOST_WORDS, Op};
 const ROWS: usize = MOST_WORDS;
 
 // What evaluating answers.
-#[derive(Drop)]
+#[derive(Clone, Copy)]
 pub enum Evaluation {
     Evaluated,
     Refused(Refusal),
 }
 
 // The latest start of a row.
-#[derive(Drop)]
+#[derive(Clone, Copy)]
 pub enum Start {
     Nowhere,
     At(u32),

@@ -1,9 +1,11 @@
 // The table of refusals: the number, the place and the entry of each, and the status word for C.
+#![tactic(auto)]
+
 ghost use Rattle.std.specs.Prelude.{◌≡◌, min};
 ghost use Rattle.refusal.specs.Table.{number_of, place_of, entry_named, packed_of};
 
 // A refusal by its name in the table. `Syntax` holds the bytes before the fault, `Room` the length needed, the others an index.
-#[derive(Drop)]
+#[derive(Clone, Copy)]
 pub enum Refusal {
     Long,
     Syntax(usize),
@@ -23,7 +25,7 @@ pub enum Refusal {
 }
 
 // Where a body breaks a rule: the index of the body, 0 for a lone one, and of the entry in it.
-#[derive(Drop)]
+#[derive(Clone, Copy)]
 pub struct Fault {
     pub body: usize,
     pub entry: usize,

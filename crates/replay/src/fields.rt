@@ -34,7 +34,7 @@ pub(crate) fn after(input: &[u8], end: usize) -> usize
 }
 
 // A number in hexadecimal, and the place after the byte that ends it.
-#[derive(Drop)]
+#[derive(Clone, Copy)]
 pub(crate) struct Field {
     pub(crate) value: u64,
     pub(crate) next: usize,

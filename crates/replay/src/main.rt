@@ -1,6 +1,8 @@
 // Replays many patterns and records: what the watcher and the plain evaluator say of each, to be held to what the rules say.
 // A vector is its length as five digits on a line, and three lines: the pattern's text; `tick:events` in hexadecimal; event words in
 // hexadecimal. tests/make_vectors.py makes them.
+#![tactic(auto)]
+
 mod fields;
 mod plainly;
 mod watched;

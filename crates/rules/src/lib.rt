@@ -1,4 +1,6 @@
 // The limits by name, the operators of the algebra, and the test of an event.
+#![tactic(auto)]
+
 ghost use Rattle.std.specs.Prelude.{◌≡◌, ◌↔◌, true};
 ghost use Rattle.rules.specs.Bits.{On};
 
@@ -30,7 +32,7 @@ pub const MOST_PATTERNS: usize = 16;
 pub const MOST_WORDS: usize = 64;
 
 // The operators on two patterns, written | + - ; in pattern text.
-#[derive(Drop)]
+#[derive(Clone, Copy)]
 pub enum Op {
     Either,
     Both,

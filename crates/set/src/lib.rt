@@ -1,4 +1,6 @@
 // Several watchers in one slice: each state is a part of it, beginning where the one before it ends.
+#![tactic(auto)]
+
 ghost use Rattle.std.specs.Prelude.{◌≡◌};
 ghost use Rattle.set.specs.Set.{SetAnswers};
 ghost use Rattle.set.specs.File.{SetRoomAnswers, SetOpenAnswers, IsSetOpened};
@@ -11,7 +13,7 @@ use rules::{LAST_TICK, MOST_PATTERNS};
 use watcher::{Needed, Opening};
 
 // What a set's tick answers.
-#[derive(Drop)]
+#[derive(Clone, Copy)]
 pub enum SetTicking {
     Ticked,
     Refused(Refusal),

@@ -1,4 +1,6 @@
 // The tally: how many windows were added, and how many ticks they take together.
+#![tactic(auto)]
+
 ghost use Rattle.std.specs.Prelude.{◌≡◌};
 ghost use Rattle.tally.specs.Tallied.{added_to, status_of, after};
 
@@ -7,14 +9,14 @@ use rules::LAST_TICK;
 
 // How many windows were added, and the sum of end - start + 1 over them. C lends the same record.
 #[repr(C)]
-#[derive(Drop)]
+#[derive(Clone, Copy)]
 pub struct Tally {
     pub windows: u64,
     pub ticks: u64,
 }
 
 // The result of adding a window: the tally with the window counted, or why the window is refused.
-#[derive(Drop)]
+#[derive(Clone, Copy)]
 pub enum Adding {
     Added(Tally),
     Refused(Refusal),
@@ -30,7 +32,7 @@ pub fn add(tally: &mut Tally, start: u64, end: u64) -> u64
 }
 
 // The status word, which is 0 if the window was added, and the tally to keep.
-#[derive(Drop)]
+#[derive(Clone, Copy)]
 pub struct Kept {
     pub status: u64,
     pub tally: Tally,

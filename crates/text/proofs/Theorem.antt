@@ -19,10 +19,10 @@ use Rattle.text.proofs.Lengths.{printed_at_most}
 use Rattle.text.proofs.Decided as Decided
 
 pub one_reading : OneReading
-one_reading = Decided.one-reading
+one_reading = Decided.one_reading
 
 pub one_printing : OnePrinting
-one_printing = Decided.one-printing
+one_printing = Decided.one_printing
 
 pub one_pattern : OnePattern
 one_pattern = one-tree

@@ -1,4 +1,6 @@
 // Pattern text: reading it into a body, and printing a body as text.
+#![tactic(auto)]
+
 mod printer;
 mod reader;
 
@@ -13,14 +15,14 @@ use refusal::Refusal;
 use rules::{ENTRY_BYTES, MOST_BODY, MOST_ENTRIES, MOST_TEXT};
 
 // What reading a text answers: the bytes of body written, or why the text is refused.
-#[derive(Drop)]
+#[derive(Clone, Copy)]
 pub enum Reading {
     Read(usize),
     Refused(Refusal),
 }
 
 // What printing a body answers: the bytes of text written, or why the body is refused.
-#[derive(Drop)]
+#[derive(Clone, Copy)]
 pub enum Printing {
     Printed(usize),
     Refused(Refusal),
@@ -48,7 +50,7 @@ pub fn read_pattern(text: &[u8], body: &mut [u8]) -> Reading
             if body.len() < need {
                 return Reading::Refused(Refusal::Room(need));
             }
-            bytes::copy(&made[0..need], body);
+            copying::copy(&made[0..need], body);
             Reading::Read(need)
         }
     }
@@ -74,7 +76,7 @@ pub fn print_pattern(body: &[u8], text: &mut [u8]) -> Printing
             if text.len() < need {
                 return Printing::Refused(Refusal::Room(need));
             }
-            bytes::copy(&made[from..], text);
+            copying::copy(&made[from..], text);
             Printing::Printed(need)
         }
     }

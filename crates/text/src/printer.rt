@@ -12,7 +12,7 @@ use rules::Op;
 pub(crate) const MOST_PRINTED: usize = 807;
 
 // Where a written pattern begins: its first entry, and its first byte.
-#[derive(Drop)]
+#[derive(Clone, Copy)]
 pub(crate) struct Begin {
     pub(crate) entry: usize,
     pub(crate) byte: usize,

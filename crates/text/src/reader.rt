@@ -14,14 +14,14 @@ pub(crate) const LETTERS: u8 = 32;
 pub(crate) const SMALL: u8 = 71;
 
 // Where an expression or a tail ends and the number of entries then, or the place where nothing could go on.
-#[derive(Drop)]
+#[derive(Clone, Copy)]
 pub(crate) enum Reach {
     To(usize, usize),
     Stuck(usize),
 }
 
 // Where a number ends and what it is, or the place where none could go on.
-#[derive(Drop)]
+#[derive(Clone, Copy)]
 enum Decimal {
     Value(usize, u64),
     Bad(usize),

@@ -1,5 +1,7 @@
 // The watch program: a pattern and ticks on standard input; a line for each window, and then the tally, on standard output.
 // A read or a write that fails ends it at once, and a line on standard error says so.
+#![tactic(auto)]
+
 ghost use Rattle.std.specs.Prelude.{◌≤◌, ◌<◌, ◌≡◌, length, cond};
 ghost use Rattle.watch.specs.Watch.{no_fault, write_failed, Enough, SomeTaken, ChunkTaken, ReadTaken, InputTaken, InputEnded};
 
@@ -15,14 +17,14 @@ const WRITE_FAILED: u64 = 2;
 
 // The run, the bytes held of a line that has not ended yet, the bytes used of the input last taken and those handed to the writer for it; and
 // what failed.
-#[derive(Drop)]
+#[derive(Clone, Copy)]
 struct Progress {
     taken: Chunked,
     fault: u64,
 }
 
 // The bytes handed to the writer; and whether it failed.
-#[derive(Drop)]
+#[derive(Clone, Copy)]
 struct Wrote {
     bytes: usize,
     fault: u64,

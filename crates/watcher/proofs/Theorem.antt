@@ -39,10 +39,10 @@ stays_in_form b h s x =
     reached_form o.1.bodied (watched_reached b o.0 o.1 x)
 
 pub formed_exactly : FormedExactly
-formed_exactly = Judges.formed-exactly
+formed_exactly = Judges.formed_exactly
 
 pub extent_exactly : ExtentExactly
-extent_exactly = Judges.extent-exactly
+extent_exactly = Judges.extent_exactly
 
 -- a tick is refused in one way only
 one_refusal : {s : List ℕ} {t : ℕ} {r r' : Refusal} → TickRefused s t r → TickRefused s t r' → r ≡ r'

@@ -1,4 +1,6 @@
 // The watcher: its state as words in a lent slice, opened from a body and moved by ticks.
+#![tactic(auto)]
+
 mod form;
 mod walk;
 
@@ -24,21 +26,21 @@ pub(crate) const NEXT: usize = 1;
 pub(crate) const HEADER: usize = 2;
 
 // How many words a state takes.
-#[derive(Drop)]
+#[derive(Clone, Copy)]
 pub enum Needed {
     Words(usize),
     Refused(Refusal),
 }
 
 // What opening a state answers.
-#[derive(Drop)]
+#[derive(Clone, Copy)]
 pub enum Opening {
     Opened,
     Refused(Refusal),
 }
 
 // What a tick answers: a window that ends at the tick, by its start, or none.
-#[derive(Drop)]
+#[derive(Clone, Copy)]
 pub enum Ticking {
     Window(u64),
     Nothing,
@@ -46,7 +48,7 @@ pub enum Ticking {
 }
 
 // What feeding answers.
-#[derive(Drop)]
+#[derive(Clone, Copy)]
 pub enum Feeding {
     Fed,
     Refused(Refusal),

@@ -8,22 +8,22 @@ use Rattle.watching.proofs.UniqueChunk as UniqueChunk
 use Rattle.watching.proofs.Rooms as Rooms
 
 pub lines_agree : LinesAgree
-lines_agree = Whole.lines-agree
+lines_agree = Whole.lines_agree
 
 pub output_agrees : OutputAgrees
-output_agrees = Whole.output-agrees
+output_agrees = Whole.output_agrees
 
 pub sound_accepted : SoundAccepted
-sound_accepted = Sounds.sound-accepted
+sound_accepted = Sounds.sound_accepted
 
 pub sound_printed : SoundPrinted
-sound_printed = Sounds.sound-printed
+sound_printed = Sounds.sound_printed
 
 pub input_prints : InputPrints
 input_prints = goal.input-prints
 
 pub output_begins : OutputBegins
-output_begins = Begins.output-begins
+output_begins = Begins.output_begins
 
 pub one_chunk : OneChunk
 one_chunk = UniqueChunk.one_chunk
@@ -32,4 +32,4 @@ pub one_end : OneEnd
 one_end = UniqueChunk.one_end
 
 pub room_enough : RoomEnough
-room_enough = Rooms.room-enough
+room_enough = Rooms.room_enough

@@ -62,7 +62,7 @@ one_first : {l s s₁ s₂ : List ℕ} {a₁ a₂ : LineAnswer} → FirstLine l 
 one_first {l} {s} {s₁} {s₂} {a₁} {a₂} x y =
     let i = by_text x in
     let j = by_text y in
-    let u = Texts.one-reading l no_body j.body i.body j.reading i.reading j.read i.read in
+    let u = Texts.one_reading l no_body j.body i.body j.reading i.reading j.read i.read in
     one_opens i.reading i.body s s₁ s₂ a₁ a₂ i.opens (rw (u.0, u.1) at j.opens)
 
 -- ---- a further line
@@ -99,7 +99,7 @@ one_further : {l s s₁ s₂ : List ℕ} {a₁ a₂ : LineAnswer} → FurtherLin
 one_further {l} {s} {s₁} {s₂} {a₁} {a₂} x y =
     let i = by_line x in
     let j = by_line y in
-    let u = Lined.one-reading l j.reading i.reading j.read i.read in
+    let u = Lined.one_reading l j.reading i.reading j.read i.read in
     one_ticks i.reading s s₁ s₂ a₁ a₂ i.ticks (rw u at j.ticks)
 
 -- ---- the run and the bytes

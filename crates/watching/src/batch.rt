@@ -18,14 +18,14 @@ const MOST_REPORTED: usize = 3840;
 const FAR: u64 = 0x8000_0000_0000_0000;
 
 // A line that was found: its tick, its events and the place of its line feed; or that it is not a tick's.
-#[derive(Drop)]
+#[derive(Clone, Copy)]
 pub(crate) enum Found {
     Tick(u64, u32, usize),
     Other,
 }
 
 // Lines read: how many, and the place after them.
-#[derive(Drop)]
+#[derive(Clone, Copy)]
 pub(crate) struct Gathered {
     pub count: usize,
     pub used: usize,

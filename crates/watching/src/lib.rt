@@ -1,4 +1,6 @@
 // A run of the watch program: what each line of its input does, and what is written for it.
+#![tactic(auto)]
+
 mod batch;
 mod pieces;
 
@@ -23,7 +25,7 @@ pub(crate) const MOST_HELD: usize = 1025;
 const MOST_FINISH: usize = MOST_WRITTEN + MOST_TALLY;
 
 // How far a run is: phase 0 before line 1, 1 running, 2 ended by a refusal; the lines taken; and the tally.
-#[derive(Drop)]
+#[derive(Clone, Copy)]
 pub struct Run {
     pub phase: u64,
     pub line: u64,
@@ -31,14 +33,14 @@ pub struct Run {
 }
 
 // The run after a line, and the bytes written for it.
-#[derive(Drop)]
+#[derive(Clone, Copy)]
 pub(crate) struct Taken {
     pub run: Run,
     pub written: usize,
 }
 
 // A chunk of input taken: the run after it, the bytes held of a line that has not ended, the bytes of the chunk used, and those written.
-#[derive(Drop)]
+#[derive(Clone, Copy)]
 pub struct Chunked {
     pub run: Run,
     pub held: usize,
@@ -47,21 +49,21 @@ pub struct Chunked {
 }
 
 // What taking a chunk answers.
-#[derive(Drop)]
+#[derive(Clone, Copy)]
 pub enum Chunking {
     Taken(Chunked),
     Refused(Refusal),
 }
 
 // What finishing answers: the bytes written, or why nothing was done.
-#[derive(Drop)]
+#[derive(Clone, Copy)]
 pub enum Finishing {
     Finished(usize),
     Refused(Refusal),
 }
 
 // What a line answers: nothing to report, a window by its start and end, or why the line is refused.
-#[derive(Drop)]
+#[derive(Clone, Copy)]
 pub(crate) enum LineAnswer {
     Nothing,
     Window(u64, u64),

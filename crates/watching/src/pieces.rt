@@ -161,7 +161,7 @@ fn append(part: &mut [u8], from: usize, piece: &[u8]) -> usize
     ensures { Appended part.old from piece.now part.new result }
 {
     let n = least(piece.len(), crate::MOST_HELD - from);
-    bytes::copy(&piece[0..n], &mut part[from..]);
+    copying::copy(&piece[0..n], &mut part[from..]);
     from + n
 }
 
