@@ -1,0 +1,27 @@
+use mathlib.Core.Path.{ap, ◌∙◌}
+use Prim.Native.Nat.{◌*◌}
+use native.Mathlib.Omega.{arith}
+use Rattle.cell.specs.Pairs.{span_of, put_span}
+use Rattle.cell.proofs.Insertion.{carry_start, carry_later, carry_past, carry_met, carry_end}
+use Rattle.cell.proofs.kept.insert_pair.Goals as goal
+
+pub loop-i-init : goal.loop-i-init
+loop-i-init c = carry_start c.args.kept.now c.args.count (span_of c.args.pair) c.requires
+
+pub returns-then-carried-here : goal.returns-then-carried-here
+returns-then-carried-here c =
+    carry_met c.loop-i.invariant (span_of c.pair_at-here.result) _ (omega arith) (omega arith) c.pair_at-here.ensures c.if-carried-here.true
+    (c.put_pair.ensures ∙ ap (put_span c.loop-i.auto (2 * c.loop-i.i)) c.better_of.ensures)
+
+pub loop-i-preserved-then-carried-here-2 : goal.loop-i-preserved-then-carried-here-2
+loop-i-preserved-then-carried-here-2 c =
+    carry_later c.loop-i.invariant (span_of c.pair_at-here.result) _ (omega arith) (omega arith) c.pair_at-here.ensures c.if-carried-here-2.true
+    c.put_pair-then-carried-here-2.ensures
+
+pub loop-i-preserved : goal.loop-i-preserved
+loop-i-preserved c =
+    carry_past c.loop-i.invariant (span_of c.pair_at-here.result) (omega arith) c.pair_at-here.ensures c.if-carried-here.false c.if-carried-here-2.false
+
+pub returns : goal.returns
+returns c =
+    carry_end c.loop-i.invariant _ (omega arith) (omega arith) c.put_pair-2.ensures

@@ -1,0 +1,26 @@
+use mathlib.Core.Path.{refl}
+use native.Mathlib.Omega.{arith}
+use lib.ListN.{length-set}
+use lib.Seq.{paste-zero}
+use Rattle.cell.specs.Calls.{new_words}
+use Rattle.cell.proofs.KeptLaws.{store_word, store_end}
+use Rattle.std.proofs.Common.{rules}
+use Rattle.cell.proofs.kept.store_kept.Goals as goal
+
+pub loop-i-init : goal.loop-i-init
+loop-i-init c =
+    let h = c.args in
+    (search rules, refl, paste-zero h.cell.now 2 (new_words h.cell.now h.kept.now h.count))
+
+pub loop-i-preserved : goal.loop-i-preserved
+loop-i-preserved c =
+    (
+      omega arith,
+      simp length-set c.loop-i.invariant.1,
+      store_word c.args.cell.now c.args.kept.now c.args.count c.requires c.loop-i.cell c.loop-i.i _ (omega arith)
+          c.word_or_zero.ensures c.loop-i.invariant.2,
+    )
+
+pub returns : goal.returns
+returns c =
+    store_end c.args.cell.now c.args.kept.now c.args.count c.requires c.loop-i.cell c.loop-i.i (omega arith) c.loop-i.invariant.2

@@ -1,0 +1,59 @@
+use mathlib.Core.Path.{◌≡◌, sym, ap, ◌∙◌}
+use mathlib.Core.List.{List}
+use Prim.Native.Nat.{ℕ, ◌+◌, ◌*◌}
+use lib.ListN.{get_or}
+use Rattle.plain.specs.Rows.{rows_of}
+use Rattle.plain.proofs.Fills.{made_none, made_more, made_kept, row_at, filled}
+use native.Mathlib.Omega.{arith}
+use Rattle.plain.proofs.fill_within.Goals as goal
+
+pub loop-e-init : goal.loop-e-init
+loop-e-init c = made_none _ _ _
+
+pub loop-e-preserved : goal.loop-e-preserved
+loop-e-preserved c =
+    let l = c.loop-e in
+    let a = c.args in
+    let kept = made_kept _ _ _ a.x _ _ c.requires.0 (omega arith) l.invariant in
+    let same : get_or (rows_of a.rows.now a.x) l.e 0 ≡ get_or l.rows (a.x * 64 + l.e) 0 =
+    ap (λ (z : List ℕ). get_or z l.e 0) (sym kept) ∙ row_at l.rows a.x l.e (omega arith) in
+    made_more _ _ _ c.within_row.result _ _ c.requires.1 (omega arith) l.invariant (rw same c.within_row.ensures)
+
+pub shape_of-rows : goal.shape_of-rows
+shape_of-rows c = c.loop-e.invariant.long
+
+pub returns : goal.returns
+returns c = filled _ _ c.loop-e.e _ _ c.loop-e-test.false c.loop-e.invariant
+
+pub overflow_mul-from : goal.overflow_mul-from
+overflow_mul-from c = omega arith
+
+pub overflow_mul-at : goal.overflow_mul-at
+overflow_mul-at c = omega arith
+
+pub overflow_add-from : goal.overflow_add-from
+overflow_add-from c = omega arith
+
+pub offset_bounds-rows-from : goal.offset_bounds-rows-from
+offset_bounds-rows-from c = omega arith
+
+pub bounds-rows-from : goal.bounds-rows-from
+bounds-rows-from c = omega arith
+
+pub within_row-requires : goal.within_row-requires
+within_row-requires c = omega arith
+
+pub overflow_add-rows : goal.overflow_add-rows
+overflow_add-rows c = omega arith
+
+pub offset_bounds-rows-at : goal.offset_bounds-rows-at
+offset_bounds-rows-at c = omega arith
+
+pub bounds-rows-at : goal.bounds-rows-at
+bounds-rows-at c = omega arith
+
+pub overflow_add-e : goal.overflow_add-e
+overflow_add-e c = omega arith
+
+pub loop-e-smaller : goal.loop-e-smaller
+loop-e-smaller c = omega arith

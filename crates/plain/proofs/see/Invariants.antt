@@ -1,0 +1,10 @@
+-- `plain::see` meets its contract: after i rows the masks up to place i are made. The measure is the rows left. Assumes nothing.
+use Prim.Native.Nat.{◌-◌}
+use Rattle.plain.proofs.Masks.{Seeing}
+use Rattle.plain.proofs.see.Given as goal
+
+abbrev pub invariant-loop-i : goal.invariant-loop-i
+invariant-loop-i l = Seeing l.rows l.masks l.sum l.i
+
+abbrev pub decreases-loop-i : goal.decreases-loop-i
+decreases-loop-i l = 64 - l.i
