@@ -13,14 +13,14 @@ loop-i-init c =
 pub keep_pair-count-requires : goal.keep_pair-count-requires
 keep_pair-count-requires c =
     let h = c.args in
-    insert_ready c.loop-i.auto c.loop-i.count (spans_from h.cell.now 0 h.pairs) (drop c.loop-i.i h.starts.now) (omega arith)
+    insert_ready c.loop-i.kept c.loop-i.count (spans_from h.cell.now 0 h.pairs) (drop c.loop-i.i h.starts.now) (omega arith)
     c.loop-i.invariant.2
 
 pub loop-i-preserved : goal.loop-i-preserved
 loop-i-preserved c =
     let h = c.args in (
       omega (arith, c.keep_pair-count.ensures.most),
-      c.keep_pair-count.auto.0 ∙ c.loop-i.invariant.1,
+      c.keep_pair-count.auto.kept ∙ c.loop-i.invariant.1,
       c.keep_pair-count.ensures.pairs
           ∙ gather_turn (spans_from h.cell.now 0 h.pairs) h.starts.now c.loop-i.i _ _ (omega arith) (omega arith)
           c.choose_pair.ensures c.loop-i.invariant.2,

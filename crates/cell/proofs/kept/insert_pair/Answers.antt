@@ -11,7 +11,7 @@ loop-i-init c = carry_start c.args.kept.now c.args.count (span_of c.args.pair) c
 pub returns-then-carried-here : goal.returns-then-carried-here
 returns-then-carried-here c =
     carry_met c.loop-i.invariant (span_of c.pair_at-here.result) _ (omega arith) (omega arith) c.pair_at-here.ensures c.if-carried-here.true
-    (c.put_pair.ensures ∙ ap (put_span c.loop-i.auto (2 * c.loop-i.i)) c.better_of.ensures)
+    (c.put_pair.ensures ∙ ap (put_span c.loop-i.kept (2 * c.loop-i.i)) c.better_of.ensures)
 
 pub loop-i-preserved-then-carried-here-2 : goal.loop-i-preserved-then-carried-here-2
 loop-i-preserved-then-carried-here-2 c =

@@ -13,13 +13,12 @@ loop-i-init c =
     (search rules, refl, paste-zero h.cell.now 2 (new_words h.cell.now h.kept.now h.count))
 
 pub loop-i-preserved : goal.loop-i-preserved
-loop-i-preserved c =
-    (
-      omega arith,
-      simp length-set c.loop-i.invariant.1,
-      store_word c.args.cell.now c.args.kept.now c.args.count c.requires c.loop-i.cell c.loop-i.i _ (omega arith)
-          c.word_or_zero.ensures c.loop-i.invariant.2,
-    )
+loop-i-preserved c = (
+  omega arith,
+  simp length-set c.loop-i.invariant.1,
+  store_word c.args.cell.now c.args.kept.now c.args.count c.requires c.loop-i.cell c.loop-i.i _ (omega arith)
+      c.word_or_zero.ensures c.loop-i.invariant.2,
+)
 
 pub returns : goal.returns
 returns c =

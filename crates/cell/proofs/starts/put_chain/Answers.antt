@@ -12,13 +12,12 @@ pub loop-i-init : goal.loop-i-init
 loop-i-init c = (search rules, refl, paste-zero c.args.starts.now c.args.at (cell_starts Chain c.args.cell.now))
 
 pub loop-i-preserved : goal.loop-i-preserved
-loop-i-preserved c =
-    (
-      omega arith,
-      simp length-set c.loop-i.invariant.1,
-      push_kept c.args.cell.now c.args.starts.now c.args.at c.requires.0 c.requires.1 c.loop-i.starts c.loop-i.i (omega arith)
-          c.loop-i.invariant.2,
-    )
+loop-i-preserved c = (
+  omega arith,
+  simp length-set c.loop-i.invariant.1,
+  push_kept c.args.cell.now c.args.starts.now c.args.at c.requires.0 c.requires.1 c.loop-i.starts c.loop-i.i (omega arith)
+      c.loop-i.invariant.2,
+)
 
 pub returns : goal.returns
 returns c =
