@@ -11,7 +11,7 @@ loop-e-init c = made_none _ _ _
 
 pub pair_row-row-requires : goal.pair_row-row-requires
 pair_row-row-requires c =
-    let l = c.before.before.before.before.loop in
+    let l = c.loop-e in
     let a = c.args in
     let p = c.requires in
     let kept : (z : ℕ) → z < a.k → rows_of l.rows z ≡ rows_of a.rows.now z = λ z h. made_kept _ _ _ z _ _ h (omega (arith, p.room)) l.invariant in
@@ -22,7 +22,7 @@ pair_row-row-requires c =
 
 pub loop-e-preserved : goal.loop-e-preserved
 loop-e-preserved c =
-    let l = c.before.before.before.before.before.loop in
+    let l = c.loop-e in
     let a = c.args in
     let p = c.requires in
     let px = made_kept _ _ _ a.x _ _ p.x_before (omega (arith, p.room)) l.invariant in
@@ -35,57 +35,3 @@ shape_of-rows c = c.loop-e.invariant.long
 
 pub returns : goal.returns
 returns c = filled _ _ c.loop-e.e _ _ c.loop-e-test.false c.loop-e.invariant
-
-pub overflow_mul-from : goal.overflow_mul-from
-overflow_mul-from c = omega arith
-
-pub overflow_mul-to : goal.overflow_mul-to
-overflow_mul-to c = omega arith
-
-pub overflow_mul-at : goal.overflow_mul-at
-overflow_mul-at c = omega arith
-
-pub overflow_add-from : goal.overflow_add-from
-overflow_add-from c = omega arith
-
-pub offset_bounds-all-from : goal.offset_bounds-all-from
-offset_bounds-all-from c = omega arith
-
-pub slice_bounds-pair_row-count : goal.slice_bounds-pair_row-count
-slice_bounds-pair_row-count c = omega arith
-
-pub slice_bounds-pair_row-start : goal.slice_bounds-pair_row-start
-slice_bounds-pair_row-start c = omega arith
-
-pub slice_bounds-pair_row-end : goal.slice_bounds-pair_row-end
-slice_bounds-pair_row-end c = omega arith
-
-pub overflow_add-to : goal.overflow_add-to
-overflow_add-to c = omega arith
-
-pub offset_bounds-all-to : goal.offset_bounds-all-to
-offset_bounds-all-to c = omega arith
-
-pub slice_bounds-pair_row-count-in-loop-e : goal.slice_bounds-pair_row-count-in-loop-e
-slice_bounds-pair_row-count-in-loop-e c = omega arith
-
-pub slice_bounds-pair_row-start-in-loop-e : goal.slice_bounds-pair_row-start-in-loop-e
-slice_bounds-pair_row-start-in-loop-e c = omega arith
-
-pub slice_bounds-pair_row-end-in-loop-e : goal.slice_bounds-pair_row-end-in-loop-e
-slice_bounds-pair_row-end-in-loop-e c = omega arith
-
-pub overflow_add-rows : goal.overflow_add-rows
-overflow_add-rows c = omega arith
-
-pub offset_bounds-rows-at : goal.offset_bounds-rows-at
-offset_bounds-rows-at c = omega arith
-
-pub bounds-rows-at : goal.bounds-rows-at
-bounds-rows-at c = omega arith
-
-pub overflow_add-e : goal.overflow_add-e
-overflow_add-e c = omega arith
-
-pub loop-e-smaller : goal.loop-e-smaller
-loop-e-smaller c = omega arith

@@ -45,7 +45,7 @@ fill_letter-requires c =
 pub loop-i-preserved-in-Letter : goal.loop-i-preserved-in-Letter
 loop-i-preserved-in-Letter c =
     let l = c.loop-i in
-    filling_letter _ _ _ _ _ _ _ _ l.invariant (omega arith) c.fill_letter.new.0 c.fill_letter.auto.0 _ (letter_entry (goal.at.loop-i-preserved-in-Letter c).In-Letter) c.fill_letter.ensures
+    filling_letter _ _ _ _ _ _ _ _ l.invariant (omega arith) c.fill_letter.new.rows c.fill_letter.auto.rows _ (letter_entry (goal.at.loop-i-preserved-in-Letter c).In-Letter) c.fill_letter.ensures
 
 pub overflow_sub-d : goal.overflow_sub-d
 overflow_sub-d c = omega (arith, pair_two (goal.at.overflow_sub-d c).In-Pair)
@@ -62,10 +62,13 @@ fill_pair-requires c =
 pub overflow_sub-tops : goal.overflow_sub-tops
 overflow_sub-tops c = omega (arith, pair_two (goal.at.overflow_sub-tops c).In-Pair)
 
+pub overflow_sub-d-in-Pair-2 : goal.overflow_sub-d-in-Pair-2
+overflow_sub-d-in-Pair-2 c = omega (arith, pair_two (goal.at.overflow_sub-d-in-Pair-2 c).In-Pair)
+
 pub loop-i-preserved-in-Pair : goal.loop-i-preserved-in-Pair
 loop-i-preserved-in-Pair c =
     let l = c.loop-i in
-    filling_pair _ _ _ _ _ _ _ _ l.invariant (omega arith) c.fill_pair.new.0 c.fill_pair.auto.0 _ _ _ (pair_entry (goal.at.loop-i-preserved-in-Pair c).In-Pair) refl refl c.fill_pair.ensures
+    filling_pair _ _ _ _ _ _ _ _ l.invariant (omega arith) c.fill_pair.new.rows c.fill_pair.auto.rows _ _ _ (pair_entry (goal.at.loop-i-preserved-in-Pair c).In-Pair) refl refl c.fill_pair.ensures
 
 pub overflow_sub-d-in-Within : goal.overflow_sub-d-in-Within
 overflow_sub-d-in-Within c = omega (arith, within_one (goal.at.overflow_sub-d-in-Within c).In-Within)
@@ -81,7 +84,7 @@ overflow_sub-tops-in-Within c = omega (arith, within_one (goal.at.overflow_sub-t
 pub loop-i-preserved-in-Within : goal.loop-i-preserved-in-Within
 loop-i-preserved-in-Within c =
     let l = c.loop-i in
-    filling_within _ _ _ _ _ _ _ _ l.invariant (omega arith) c.fill_within.new.0 c.fill_within.auto.0 _ _ (within_entry (goal.at.loop-i-preserved-in-Within c).In-Within) refl c.fill_within.ensures
+    filling_within _ _ _ _ _ _ _ _ l.invariant (omega arith) c.fill_within.new.rows c.fill_within.auto.rows _ _ (within_entry (goal.at.loop-i-preserved-in-Within c).In-Within) refl c.fill_within.ensures
 
 pub loop-i-preserved : goal.loop-i-preserved
 loop-i-preserved c =
@@ -92,57 +95,3 @@ shape_of-rows c = c.loop-i.invariant.same
 
 pub returns : goal.returns
 returns c = λ e body. filling_all _ _ _ _ _ _ _ _ c.loop-i.invariant (omega arith) refl e body
-
-pub overflow_add-i : goal.overflow_add-i
-overflow_add-i c = omega arith
-
-pub offset_bounds-tops-d : goal.offset_bounds-tops-d
-offset_bounds-tops-d c = omega arith
-
-pub bounds-tops-d : goal.bounds-tops-d
-bounds-tops-d c = omega arith
-
-pub overflow_add-d : goal.overflow_add-d
-overflow_add-d c = omega arith
-
-pub loop-i-smaller-in-Letter : goal.loop-i-smaller-in-Letter
-loop-i-smaller-in-Letter c = omega arith
-
-pub offset_bounds-tops-d-in-Pair : goal.offset_bounds-tops-d-in-Pair
-offset_bounds-tops-d-in-Pair c = omega arith
-
-pub bounds-tops-d-in-Pair : goal.bounds-tops-d-in-Pair
-bounds-tops-d-in-Pair c = omega arith
-
-pub offset_bounds-tops-d-in-Pair-2 : goal.offset_bounds-tops-d-in-Pair-2
-offset_bounds-tops-d-in-Pair-2 c = omega arith
-
-pub bounds-tops-d-in-Pair-2 : goal.bounds-tops-d-in-Pair-2
-bounds-tops-d-in-Pair-2 c = omega arith
-
-pub offset_bounds-tops-d-in-Pair-3 : goal.offset_bounds-tops-d-in-Pair-3
-offset_bounds-tops-d-in-Pair-3 c = omega arith
-
-pub bounds-tops-d-in-Pair-3 : goal.bounds-tops-d-in-Pair-3
-bounds-tops-d-in-Pair-3 c = omega arith
-
-pub loop-i-smaller-in-Pair : goal.loop-i-smaller-in-Pair
-loop-i-smaller-in-Pair c = omega arith
-
-pub offset_bounds-tops-d-in-Within : goal.offset_bounds-tops-d-in-Within
-offset_bounds-tops-d-in-Within c = omega arith
-
-pub bounds-tops-d-in-Within : goal.bounds-tops-d-in-Within
-bounds-tops-d-in-Within c = omega arith
-
-pub offset_bounds-tops-d-in-Within-2 : goal.offset_bounds-tops-d-in-Within-2
-offset_bounds-tops-d-in-Within-2 c = omega arith
-
-pub bounds-tops-d-in-Within-2 : goal.bounds-tops-d-in-Within-2
-bounds-tops-d-in-Within-2 c = omega arith
-
-pub loop-i-smaller-in-Within : goal.loop-i-smaller-in-Within
-loop-i-smaller-in-Within c = omega arith
-
-pub loop-i-smaller : goal.loop-i-smaller
-loop-i-smaller c = omega arith

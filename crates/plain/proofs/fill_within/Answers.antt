@@ -24,36 +24,3 @@ shape_of-rows c = c.loop-e.invariant.long
 
 pub returns : goal.returns
 returns c = filled _ _ c.loop-e.e _ _ c.loop-e-test.false c.loop-e.invariant
-
-pub overflow_mul-from : goal.overflow_mul-from
-overflow_mul-from c = omega arith
-
-pub overflow_mul-at : goal.overflow_mul-at
-overflow_mul-at c = omega arith
-
-pub overflow_add-from : goal.overflow_add-from
-overflow_add-from c = omega arith
-
-pub offset_bounds-rows-from : goal.offset_bounds-rows-from
-offset_bounds-rows-from c = omega arith
-
-pub bounds-rows-from : goal.bounds-rows-from
-bounds-rows-from c = omega arith
-
-pub within_row-requires : goal.within_row-requires
-within_row-requires c = omega arith
-
-pub overflow_add-rows : goal.overflow_add-rows
-overflow_add-rows c = omega arith
-
-pub offset_bounds-rows-at : goal.offset_bounds-rows-at
-offset_bounds-rows-at c = omega arith
-
-pub bounds-rows-at : goal.bounds-rows-at
-bounds-rows-at c = omega arith
-
-pub overflow_add-e : goal.overflow_add-e
-overflow_add-e c = omega arith
-
-pub loop-e-smaller : goal.loop-e-smaller
-loop-e-smaller c = omega arith

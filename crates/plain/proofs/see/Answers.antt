@@ -13,27 +13,3 @@ shape_of-masks c = omega (arith, c.loop-i.invariant.long, c.requires.1)
 
 pub returns : goal.returns
 returns c = seeing_all _ _ c.loop-i.sum _ c.loop-i-test.false c.loop-i.invariant
-
-pub bounds-masks-0 : goal.bounds-masks-0
-bounds-masks-0 c = omega arith
-
-pub offset_bounds-rows-i : goal.offset_bounds-rows-i
-offset_bounds-rows-i c = omega arith
-
-pub bounds-rows-i : goal.bounds-rows-i
-bounds-rows-i c = omega arith
-
-pub overflow_add-masks : goal.overflow_add-masks
-overflow_add-masks c = omega arith
-
-pub offset_bounds-masks-i : goal.offset_bounds-masks-i
-offset_bounds-masks-i c = omega arith
-
-pub bounds-masks-i : goal.bounds-masks-i
-bounds-masks-i c = omega arith
-
-pub overflow_add-i : goal.overflow_add-i
-overflow_add-i c = omega arith
-
-pub loop-i-smaller : goal.loop-i-smaller
-loop-i-smaller c = omega arith
