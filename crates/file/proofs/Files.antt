@@ -6,7 +6,7 @@ use mathlib.Core.List.{List, [], ◌∷◌, ◌++◌, append_assoc}
 use mathlib.Core.Option.{none}
 use native.Mathlib.Omega.{arith}
 use lib.ListN.{length, get_or, take, drop, length-append, length-drop, take-append-drop}
-use lib.Seq.{length-take-le, get_or-drop, take_at, drop_at, take-add, drop_drop}
+use lib.Seq.{length-take-le, get_or-drop, take_at, drop_at, take-add, drop-drop}
 use borrow.Author.Tests.{eq-eqb}
 use Rattle.body.proofs.Bytes.{bytes_take, bytes_drop}
 use Rattle.rules.proofs.Impossible.{impossible}
@@ -128,7 +128,7 @@ module _ (rest : List ℕ) where
       let z : offset + body_bytes n + total (take i counts) ≡ offset + (body_bytes n + total (take i counts)) = omega arith in
       rw (
         next,
-        ← drop_drop (contents_bytes * i) contents_bytes (contents names (n ∷ counts) offset ++ rest),
+        ← drop-drop (contents_bytes * i) contents_bytes (contents names (n ∷ counts) offset ++ rest),
         contents_cons names n counts offset,
         head_rest name more offset n long,
       )
@@ -169,7 +169,7 @@ length_names c (suc k) h =
 pub name_next : (names : List ℕ) (i : ℕ) → name_of names (suc i) ≡ name_of (drop name_bytes names) i
 name_next names i =
     let e : suc i * name_bytes ≡ name_bytes + i * name_bytes = omega arith in
-    ap (take name_bytes) (ap (λ (k : ℕ). drop k names) e ∙ sym (drop_drop (i * name_bytes) name_bytes names))
+    ap (take name_bytes) (ap (λ (k : ℕ). drop k names) e ∙ sym (drop-drop (i * name_bytes) name_bytes names))
 
 -- each name and number that contents hold, by their own bytes
 pub name_held : (c : List ℕ) (k i : ℕ) → i < k → contents_bytes * k ≤ length c
@@ -182,7 +182,7 @@ name_held c (suc k) (suc i) h l =
     let next : contents_bytes * suc i ≡ contents_bytes + contents_bytes * i = omega arith in
     let passed : drop name_bytes (take name_bytes c ++ names_in rest k) ≡ names_in rest k =
     drop_at (take name_bytes c) (names_in rest k) name_bytes (length-take-le name_bytes c (omega arith)) in
-    rw (next, ← drop_drop (contents_bytes * i) contents_bytes c, name_next (take name_bytes c ++ names_in rest k) i, passed)
+    rw (next, ← drop-drop (contents_bytes * i) contents_bytes c, name_next (take name_bytes c ++ names_in rest k) i, passed)
     (name_held rest k i (omega arith) (omega (arith, length-drop contents_bytes c)))
 
 pub count_held : (c : List ℕ) (k i : ℕ) → i < k → get_or (drop (contents_bytes * i) c) 10 0 ≡ get_or (counts_in c k) i 0
@@ -191,7 +191,7 @@ count_held c zero i h = absurd (omega arith)
 count_held c (suc k) zero h = refl
 count_held c (suc k) (suc i) h =
     let next : contents_bytes * suc i ≡ contents_bytes + contents_bytes * i = omega arith in
-    rw (next, ← drop_drop (contents_bytes * i) contents_bytes c) (count_held (drop contents_bytes c) k i (omega arith))
+    rw (next, ← drop-drop (contents_bytes * i) contents_bytes c) (count_held (drop contents_bytes c) k i (omega arith))
 
 -- an entry's bytes are those of what is read from it
 two : (l : List ℕ) → 2 ≤ length l → take 2 l ≡ get_or l 0 0 ∷ get_or l 1 0 ∷ []
@@ -207,7 +207,7 @@ entry_back c offset w h p z =
     two (drop 10 c) (omega (arith, length-drop 10 c)) ∙ rw (get_or-drop 10 c 0 0, get_or-drop 10 c 1 0, z) refl in
     take-add 8 4 c
     ∙ ap (λ (r : List ℕ). take 8 c ++ r)
-    (take-add 2 2 (drop 8 c) ∙ ap₂ (λ (r s : List ℕ). r ++ s) offset-bytes (ap (take 2) (drop_drop 2 8 c) ∙ last))
+    (take-add 2 2 (drop 8 c) ∙ ap₂ (λ (r s : List ℕ). r ++ s) offset-bytes (ap (take 2) (drop-drop 2 8 c) ∙ last))
 
 -- contents that break no rule are those of the names and numbers that they hold, which break none either
 pub entries_back : (before c : List ℕ) (k offset i : ℕ) → Bytes c → contents_bytes * k ≤ length c → broken_content before c k offset i ≡ none

@@ -7,7 +7,7 @@ use native.Mathlib.Nat.{sub-zero}
 use native.Mathlib.Omega.{arith}
 use lib.ListN.{length, get_or, take, drop}
 use lib.Dec.{ltb, leb}
-use lib.Seq.{drop_drop}
+use lib.Seq.{drop-drop}
 use borrow.Author.Tests.{lt-ltb, le-ltb, le-leb, lt-leb}
 use Rattle.rules.proofs.Lists.{drop_part}
 use Rattle.rules.proofs.Impossible.{impossible}
@@ -55,7 +55,7 @@ module _ {file name : List ℕ} {count i at : ℕ} (k : Sought file name count i
   unfolding seek
   seek_turn =
       let long : at + name_bytes - at ≡ name_bytes = omega arith in
-      rw (left_suc count i h, long, drop_part file at, drop_drop contents_bytes at file)
+      rw (left_suc count i h, long, drop_part file at, drop-drop contents_bytes at file)
 
   pub sought_here : {r : Place} → same (take (at + name_bytes - at) (drop at file)) name ≡ true
       → r ≡ place_in (take (length file - at) (drop at file)) → r ≡ placed file name

@@ -6,7 +6,7 @@ use mathlib.Core.List.{List, [], ◌∷◌}
 use mathlib.Core.Option.{Option, none, some}
 use native.Mathlib.Omega.{arith}
 use lib.ListN.{length, get_or, take, drop, length-drop}
-use lib.Seq.{length-take-le, drop_drop}
+use lib.Seq.{length-take-le, drop-drop}
 use Rattle.rules.proofs.Impossible.{impossible}
 use Rattle.rules.specs.Limits.{argument_bytes}
 use Rattle.body.specs.declared.BodyCheck.TheVariants as Bodies
@@ -75,7 +75,7 @@ seek_found file before c name (suc k) offset i b from long p q r g s =
     } in
     let later : seek (drop contents_bytes c) name k ≡ At from long → BodyIn file name from long =
     seek_found file (take name_bytes c) (drop contents_bytes c) name k (offset + body_bytes n) (i + 1) (b + 1) from long first.1 (omega arith)
-    (rw (← drop_drop (body_bytes n) offset file) bodies.1) (omega (arith, length-drop contents_bytes c)) in
+    (rw (← drop-drop (body_bytes n) offset file) bodies.1) (omega (arith, length-drop contents_bytes c)) in
     go (same (take name_bytes c) name) refl kept.begins here later s
   where
     go : (t : Bool) → same (take name_bytes c) name ≡ t → value_at 2 c 8 ≡ offset → BodyIn file (take name_bytes c) offset (body_bytes (get_or c 10 0))
@@ -96,7 +96,7 @@ placed_found (count ∷ f) name from long p s =
     let k = rest_sound count f p in
     seek_found (count ∷ f) [] f name count (bodies_at count) 0 0 from long k.kept
     (omega (arith, k.held, k.valid.full, length-drop (contents_bytes * count) f))
-    (rw (← drop_drop (contents_bytes * count) 1 (count ∷ f)) k.valid.unbroken) k.held s
+    (rw (← drop-drop (contents_bytes * count) 1 (count ∷ f)) k.valid.unbroken) k.held s
 
 -- what a lookup found is what the search in one of the sound files found
 found_by : (site fleet : FileCheck) (a b : Place) (whose : Whose) (from long : ℕ)

@@ -12,7 +12,7 @@ use native.Mathlib.Numerals.{add-one}
 use native.Mathlib.Omega.{arith}
 use lib.Dec.{eqb}
 use lib.ListN.{length, get_or, take, drop, length-drop, drop_of_length-le, take-append-drop}
-use lib.Seq.{length-take-le, take-suc, drop-cons, drop_drop}
+use lib.Seq.{length-take-le, take-suc, drop-cons, drop-drop}
 use borrow.Author.Tests.{eq-eqb, ne_eqb, eqb-true, eqb-false}
 use Rattle.rules.proofs.Decisions.{true_or_false}
 use Rattle.rules.proofs.Impossible.{impossible}
@@ -241,7 +241,7 @@ module _ (names counts : List ℕ) where
   unfolding parts_from broken_entry
   parts_turn i h =
       let next : i * name_bytes + name_bytes ≡ suc i * name_bytes = omega arith in
-      rw (drop-cons counts i 0 h, drop_drop name_bytes (i * name_bytes) names, next, add-one i)
+      rw (drop-cons counts i 0 h, drop-drop name_bytes (i * name_bytes) names, next, add-one i)
 
   parts_end : parts_from (length counts) ≡ none
   unfolding parts_from broken_entry
@@ -281,7 +281,7 @@ module _ (f : List ℕ) (c : FileCounted f) where
         name_there i h,
         count_there i h,
         offset,
-        drop_drop contents_bytes (contents_bytes * i) (drop 1 f),
+        drop-drop contents_bytes (contents_bytes * i) (drop 1 f),
         next,
         add-one i,
       )

@@ -7,7 +7,7 @@ use mathlib.Core.List.{List, []}
 use native.Mathlib.Omega.{arith}
 use lib.Dec.{leb, eqb}
 use lib.ListN.{length, get_or, take, drop, length-drop}
-use lib.Seq.{drop_drop}
+use lib.Seq.{drop-drop}
 use borrow.Author.Tests.{le-leb, eq-eqb, leb-true, eqb-true}
 use Rattle.rules.proofs.Impossible.{impossible}
 use Rattle.rules.specs.Limits.{most_patterns}
@@ -136,9 +136,9 @@ body_part f names counts bodies k i =
     let s = parts_sound names counts bodies k.sound in
     let file : List ℕ = file_of names counts bodies in
     let from : drop (bodies_at (length counts)) file ≡ bodies =
-    sym (drop_drop (contents_bytes * length counts) 1 file) ∙ bodies_after names counts bodies s in
+    sym (drop-drop (contents_bytes * length counts) 1 file) ∙ bodies_after names counts bodies s in
     let at : drop (body_at counts i) file ≡ drop (total (take i counts)) bodies =
-    sym (drop_drop (total (take i counts)) (bodies_at (length counts)) file) ∙ ap (drop (total (take i counts))) from in
+    sym (drop-drop (total (take i counts)) (bodies_at (length counts)) file) ∙ ap (drop (total (take i counts))) from in
     ap (take (body_bytes (get_or counts i 0))) (ap (drop (body_at counts i)) k.same ∙ at)
 
 pub bodies_placed : BodiesPlaced
@@ -150,7 +150,7 @@ bodies_placed f names counts bodies k = (ap pattern_count k.same, λ i h. (place
         let file : List ℕ = file_of names counts bodies in
         ap (λ (g : List ℕ). body_place g i) k.same
         ∙ sym (body_here file i h (omega (arith, (rest_made names counts bodies s).held)))
-        ∙ ap place_in (sym (drop_drop (contents_bytes * i) 1 file))
+        ∙ ap place_in (sym (drop-drop (contents_bytes * i) 1 file))
         ∙ place_there bodies names counts (bodies_at (length counts)) i s.full (near names counts bodies s) h
 
 parts_read_back : (f names counts bodies : List ℕ) → PartsOf f names counts bodies → ReadsBack f names counts bodies

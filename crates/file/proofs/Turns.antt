@@ -8,7 +8,7 @@ use native.Mathlib.Nat.{sub-zero}
 use native.Mathlib.Numerals.{add-one}
 use native.Mathlib.Omega.{arith}
 use lib.ListN.{length, get_or, take, drop, set, length-set, length-drop, drop_of_length-le, take-append-drop}
-use lib.Seq.{drop-cons, drop_drop, get_or-drop, length-take-le, take-suc-set, drop-set-lt, append_snoc}
+use lib.Seq.{drop-cons, drop-drop, get_or-drop, length-take-le, take-suc-set, drop-set-lt, append_snoc}
 use borrow.Author.Tests.{eq-eqb, ne_eqb}
 use Rattle.rules.proofs.Lists.{drop_part}
 use Rattle.rules.specs.Limits.{argument_bytes, most_patterns}
@@ -45,7 +45,7 @@ copied_none count f old = record { upto = omega arith; place = omega arith; long
 counts_turn : (f : List ℕ) (count i at : ℕ) → i < count
     → counts_in (drop at f) (count - i) ≡ get_or f (at + 10) 0 ∷ counts_in (drop (at + contents_bytes) f) (count - (i + 1))
 unfolding counts_in
-counts_turn f count i at h = rw (left_suc count i h, get_or-drop at f 10 0, drop_drop contents_bytes at f)
+counts_turn f count i at h = rw (left_suc count i h, get_or-drop at f 10 0, drop-drop contents_bytes at f)
 
 pub copied_more : {count : ℕ} {f old new : List ℕ} {i at : ℕ} → Copied count f old new i at → count ≤ length new → i < count
     → Copied count f old (set new i (get_or f (at + 10) 0)) (i + 1) (at + contents_bytes)
@@ -136,7 +136,7 @@ module _ {counts bodies : List ℕ} {b at n end : ℕ} (k : AtBody counts bodies
   turned =
       let long : body_bytes (get_or counts b 0) ≡ end - at = omega arith in
       let next : at + (end - at) ≡ end = omega arith in
-      rw (drop-cons counts b 0 k.there, add-one b, long, drop_drop (end - at) at bodies, next)
+      rw (drop-cons counts b 0 k.there, add-one b, long, drop-drop (end - at) at bodies, next)
 
   pub searched_here : {e : ℕ} → scan (entries argument_bytes (take (end - at) (drop at bodies))) 0 0 ≡ some e
       → Refused (broken_at b e) ≡ broken_body counts bodies 0
@@ -173,7 +173,7 @@ module _ {names counts : List ℕ} {i from at : ℕ} (k : Kept names counts i fr
       ≡ cond (entry_kept (take (at - from) (drop from names)) (take (at + name_bytes - at) (drop at names)) (get_or counts i 0))
       (broken_entry (take (at + name_bytes - at) (drop at names)) (drop (at + name_bytes) names) (drop (i + 1) counts) (i + 1)) (some i)
   unfolding broken_entry
-  entry_turn = rw (drop-cons counts i 0 h, add-one i, name_long, drop_drop name_bytes at names)
+  entry_turn = rw (drop-cons counts i 0 h, add-one i, name_long, drop-drop name_bytes at names)
 
   pub kept_here : entry_kept (take (at - from) (drop from names)) (take (at + name_bytes - at) (drop at names)) (get_or counts i 0) ≡ false
       → Refused (Entry i) ≡ on_entry (broken_entry [] names counts 0) Sound
@@ -222,7 +222,7 @@ module _ {count : ℕ} {f : List ℕ} {i from to at offset : ℕ} (k : KeptConte
   unfolding broken_content
   content_turn =
       let long : at + name_bytes - at ≡ name_bytes = omega arith in
-      rw (left_suc count i h, long, drop_part f at, get_or-drop at f 10 0, drop_drop contents_bytes at f)
+      rw (left_suc count i h, long, drop_part f at, get_or-drop at f 10 0, drop-drop contents_bytes at f)
 
   pub contents_here : content_kept (take (to - from) (drop from f)) (take (length f - at) (drop at f)) offset ≡ false
       → Refused (Entry i) ≡ on_entry (broken_content [] f count (bodies_at count) 0) Sound

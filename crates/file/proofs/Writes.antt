@@ -8,7 +8,7 @@ use native.Mathlib.Numerals.{add-one}
 use native.Mathlib.Omega.{arith}
 use lib.Dec.{leb}
 use lib.ListN.{length, get_or, take, drop, set, length-append, length-take, length-drop, drop_of_length-le}
-use lib.Seq.{take-length, drop-cons, drop_drop, length-take-le, take_all, take_at, drop_at, sets, sets-eq}
+use lib.Seq.{take-length, drop-cons, drop-drop, length-take-le, take_all, take_at, drop_at, sets, sets-eq}
 use borrow.Author.Tests.{le-leb, lt-leb, leb-false}
 use borrow.Rule.Slice.PartMut.{mid_of, put_mid, same_len_mid, mid_len}
 use Rattle.rules.proofs.Impossible.{impossible}
@@ -84,7 +84,7 @@ module _ {names counts part : List ℕ} {i from at offset : ℕ} (k : Filled nam
     unfolding contents
     contents_turn =
         let long : from + name_bytes - from ≡ name_bytes = omega arith in
-        rw (drop-cons counts i 0 h, q, long, add-one i, drop_drop name_bytes from names)
+        rw (drop-cons counts i 0 h, q, long, add-one i, drop-drop name_bytes from names)
 
     pub filled_more : {n : ℕ} → n ≡ get_or counts i 0 → n < 256
         → Filled names counts (put_mid at (at + contents_bytes - at) part e) (i + 1) (from + name_bytes) (at + contents_bytes) (offset + body_bytes n)
@@ -117,7 +117,7 @@ file_written x (y ∷ old) c b at end p q h =
     let front : length (x ∷ c) ≡ at = omega arith in
     let last : 1 + (at - 1 + (end - at)) ≡ end = omega arith in
     let far : drop (end - at) rest ≡ drop end (y ∷ old) =
-    drop_drop (end - at) (at - 1) old ∙ drop_drop (at - 1 + (end - at)) 1 (y ∷ old) ∙ ap (λ (n : ℕ). drop n (y ∷ old)) last in
+    drop-drop (end - at) (at - 1) old ∙ drop-drop (at - 1 + (end - at)) 1 (y ∷ old) ∙ ap (λ (n : ℕ). drop n (y ∷ old)) last in
     rw (take_at (x ∷ c) rest at front, drop_at (x ∷ c) rest at front, far, append_assoc c b (drop end (y ∷ old)))
 
 -- the contents have 12 bytes for each pattern

@@ -5,7 +5,7 @@ use mathlib.Core.List.{List, [], ◌∷◌, ◌++◌, append_assoc}
 use mathlib.Core.Option.{none}
 use native.Mathlib.Omega.{arith}
 use lib.ListN.{length, get_or, take, drop, length-append, length-take, length-drop, take-append-drop}
-use lib.Seq.{drop_drop, take_at, drop_at, length-take-le}
+use lib.Seq.{drop-drop, take_at, drop_at, length-take-le}
 use Rattle.rules.specs.Limits.{argument_bytes, most_patterns}
 use Rattle.rules.specs.Lists.{All}
 use Rattle.rules.specs.Pattern.{Pattern, size}
@@ -85,7 +85,7 @@ body_there (x ∷ front) e back =
     let bodies : List ℕ = bodies_of (front ++ (e ∷ back)) in
     let passed : drop (body_bytes (size x)) (encode argument_bytes x ++ bodies) ≡ bodies =
     drop_at (encode argument_bytes x) bodies (body_bytes (size x)) (omega (arith, length_encode argument_bytes x)) in
-    rw (← drop_drop (total (take (length front) counts)) (body_bytes (size x)) (encode argument_bytes x ++ bodies), passed) (body_there front e back)
+    rw (← drop-drop (total (take (length front) counts)) (body_bytes (size x)) (encode argument_bytes x ++ bodies), passed) (body_there front e back)
 
 length_sizes : (es : List Pattern) → length (sizes es) ≡ length es
 unfolding sizes

@@ -7,7 +7,7 @@ use native.Mathlib.Decide.{dec_lt}
 use native.Mathlib.Numerals.{add-one}
 use native.Mathlib.Omega.{arith}
 use lib.ListN.{length, get_or, drop, set, length-set, length-drop}
-use lib.Seq.{drop_drop, get_or-set_same, get_or-set_other}
+use lib.Seq.{drop-drop, get_or-set_same, get_or-set_other}
 use Rattle.rules.proofs.Impossible.{impossible}
 use Rattle.rules.specs.Limits.{most_patterns, ticks}
 use Rattle.rules.proofs.Decisions.{pick_yes, pick_no}
@@ -91,7 +91,7 @@ module _ {n : ℕ} {s : List ℕ} {t : ℕ} {ends : List ℕ} {i at late : ℕ} 
       f = (formed_exactly (drop at s)).0 q
 
       onward : f.beyond ≡ drop (at + extent (drop at s)) s
-      onward = sym (beyond_is f) ∙ drop_drop (extent (drop at s)) at s
+      onward = sym (beyond_is f) ∙ drop-drop (extent (drop at s)) at s
 
       pub judging_within : at + extent (drop at s) ≤ length s
       judging_within = omega (arith, extent_le (drop at s) q, length-drop at s, x.within)

@@ -8,7 +8,7 @@ use native.Mathlib.Nat.{add-zero}
 use native.Mathlib.Omega.{arith}
 use lib.Dec.{eqb, ltb}
 use lib.ListN.{length, get_or, drop}
-use lib.Seq.{get_or-drop, drop_drop, drop-cons}
+use lib.Seq.{get_or-drop, drop-drop, drop-cons}
 use borrow.Author.Tests.{lt-ltb, eqb-true, eqb-false, ltb-true}
 use Rattle.body.proofs.Entries.{number_of_op}
 use Rattle.rules.specs.declared.Op.TheVariants.{Either, Both, Without, Chain}
@@ -68,7 +68,7 @@ word_entry w f = word_split (w % 256) (w / 256) f ∙ omega arith
 
 -- the words after the first of those ahead
 drop_next : (s : List ℕ) (i : ℕ) → drop (i + 1 + 2) s ≡ drop 1 (drop (i + 2) s)
-drop_next s i = let e : i + 1 + 2 ≡ i + 2 + 1 = omega arith in rw e (sym (drop_drop 1 (i + 2) s))
+drop_next s i = let e : i + 1 + 2 ≡ i + 2 + 1 = omega arith in rw e (sym (drop-drop 1 (i + 2) s))
 
 first_word : (s : List ℕ) (i : ℕ) → get_or s (i + 2) 0 ≡ get_or (drop (i + 2) s) 0 0
 first_word s i = sym (rw add-zero at (get_or-drop (i + 2) s 0 0))

@@ -5,7 +5,7 @@ use mathlib.Core.Path.{◌≡◌, sym, ap, ◌∙◌}
 use mathlib.Core.List.{List, ◌∷◌, ◌++◌, append_assoc}
 use native.Mathlib.Omega.{arith}
 use lib.ListN.{length, take, drop, length-append}
-use lib.Seq.{take_at, drop_at, take-add, drop_drop}
+use lib.Seq.{take_at, drop_at, take-add, drop-drop}
 use Rattle.rules.specs.Pattern.{Pattern, size}
 use Rattle.detector.specs.Memory.{Memory}
 use Rattle.body.specs.Entry.{entries_by}
@@ -46,7 +46,7 @@ module _ {s : List ℕ} (f : InForm s) where
 
   pub cells_from : drop (header + count_of s) s ≡ cells f.pattern f.memory ++ f.beyond
   cells_from =
-      sym (drop_drop (count_of s) 2 s)
+      sym (drop-drop (count_of s) 2 s)
       ∙ rw (after_two, count_word)
       (drop_at (entry_words (postfix f.pattern)) (cells f.pattern f.memory ++ f.beyond) (size f.pattern)
       (length_entry_words f.pattern))

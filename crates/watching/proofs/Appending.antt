@@ -5,7 +5,7 @@ use mathlib.Core.List.{List, [], ◌++◌, append_assoc, append-nil}
 use native.Mathlib.Decide.{dec_le}
 use native.Mathlib.Omega.{arith}
 use lib.ListN.{length, take, drop, length-take, length-drop, length-append, drop_of_length-le}
-use lib.Seq.{paste, length-take-le, take_all, take-length, take_at, drop_drop, take-append-add}
+use lib.Seq.{paste, length-take-le, take_all, take-length, take_at, drop-drop, take-append-add}
 use borrow.Rule.Slice.PartMut.{mid_of, put_mid}
 use Rattle.watching.specs.Chunk.{most_held}
 use Rattle.watching.specs.inner.Progress.{Appended}
@@ -48,7 +48,7 @@ pub copy_appended : (p piece e : List ℕ) (from n : ℕ) → from ≤ most_held
 copy_appended p piece e from n f m h q =
     let all : n - 0 ≡ n = omega arith in
     let long : length (take n piece) ≡ n = length-take-le n piece (omega arith) in
-    let copied = rw (all, take-length (take n piece), long, lent_rest from p, drop_drop n from p) at q in
+    let copied = rw (all, take-length (take n piece), long, lent_rest from p, drop-drop n from p) at q in
     appended p piece (put_mid from (length p - from) p e) from n f m h
     (rest_back from p e ∙ ap (λ (l : List ℕ). take from p ++ l) copied ∙ sym (append_assoc (take from p) (take n piece) (drop (from + n) p)))
 

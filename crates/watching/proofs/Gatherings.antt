@@ -5,7 +5,7 @@ use mathlib.Core.List.{List, [], ◌∷◌, ◌++◌, append_assoc, append-nil}
 use native.Mathlib.Numerals.{add-one}
 use native.Mathlib.Omega.{arith}
 use lib.ListN.{length, get_or, take, drop, set, length-set, length-drop}
-use lib.Seq.{get_or-drop, drop_drop, take-suc-set}
+use lib.Seq.{get_or-drop, drop-drop, take-suc-set}
 use Rattle.line.specs.Answer.{IsTick}
 use Rattle.watching.specs.inner.Progress.{line_length}
 use Rattle.watching.specs.inner.Batch.{most_ticks, IsFound, MayEnd, TickLines, none, more, Gathers}
@@ -47,7 +47,7 @@ module _ {input ts ws : List ℕ} {from n at : ℕ} (x : Gathering input from ts
       let long : end - at ≡ line_length (drop at input) = omega (arith, i.ends.place) in
       let past : at + suc (line_length (drop at input)) ≡ end + 1 = omega (arith, i.ends.place) in
       let next : drop (suc (line_length (drop at input))) (drop at input) ≡ drop (end + 1) input =
-      drop_drop (suc (line_length (drop at input))) at input ∙ ap (λ (k : ℕ). drop k input) past in
+      drop-drop (suc (line_length (drop at input))) at input ∙ ap (λ (k : ℕ). drop k input) past in
       let ended : line_length (drop at input) < length (drop at input) = omega (arith, length-drop at input, i.ends.place, i.ends.inside) in
       record {
         few = omega arith;

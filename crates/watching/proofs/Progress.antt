@@ -4,7 +4,7 @@ use mathlib.Core.Path.{◌≡◌, refl, sym, ap, ◌∙◌}
 use mathlib.Core.List.{List, [], ◌++◌, append_assoc}
 use native.Mathlib.Omega.{arith}
 use lib.ListN.{length, take, drop, length-take, length-drop, length-append, take-append-drop}
-use lib.Seq.{length-take-le, take_at, drop_at, drop_drop, take-take, drop-append-le}
+use lib.Seq.{length-take-le, take_at, drop_at, drop-drop, take-take, drop-append-le}
 use borrow.Rule.Slice.PartMut.{mid_of, put_mid}
 use Rattle.line.specs.Lines.{most_written}
 use Rattle.line.specs.Answer.{IsWritten}
@@ -35,7 +35,7 @@ writes_on {bytes} {d} {e} {at} {n} h w =
     record {
       counts = omega (arith, v.counts);
       fits = omega (arith, v.fits, length-drop at d);
-      written = rest_back at d e ∙ ap (λ (l : List ℕ). take at d ++ l) (v.written ∙ ap (λ (l : List ℕ). bytes ++ l) (drop_drop n at d));
+      written = rest_back at d e ∙ ap (λ (l : List ℕ). take at d ++ l) (v.written ∙ ap (λ (l : List ℕ). bytes ++ l) (drop-drop n at d));
     }
 
 -- given its first m to write to
@@ -69,7 +69,7 @@ module _ {bytes d d' : List ℕ} {at n : ℕ} (w : WritesOn bytes d d' at n) whe
       ap (drop n) (w.written ∙ sym (append_assoc (take at d) bytes (drop n d)))
       ∙ drop_at (take at d ++ bytes) (drop n d) n
       (omega (arith, length-append (take at d) bytes, length-take-le at d (omega (arith, w.counts, w.fits)), w.counts)) in
-      ap (λ (i : ℕ). drop i d') e ∙ sym (drop_drop (k - n) n d') ∙ ap (drop (k - n)) m ∙ drop_drop (k - n) n d ∙ ap (λ (i : ℕ). drop i d) (sym e)
+      ap (λ (i : ℕ). drop i d') e ∙ sym (drop-drop (k - n) n d') ∙ ap (drop (k - n)) m ∙ drop-drop (k - n) n d ∙ ap (λ (i : ℕ). drop i d) (sym e)
 
 -- one run of bytes after the other
 pub writes_then : {b c d d₁ d₂ : List ℕ} {at m n : ℕ} → WritesOn b d d₁ at m → WritesOn c d₁ d₂ m n → WritesOn (b ++ c) d d₂ at n
@@ -92,7 +92,7 @@ module _ {run : Run} {h input s d : List ℕ} {from at end : ℕ} (few : length 
       let left : length d - n ≡ length d - at - length bytes = omega (arith, w.counts) in
       let past : end + 1 ≡ from + suc (line_length (drop from input)) = omega (arith, e.place) in
       let next : drop (end + 1) input ≡ drop (suc (line_length (drop from input))) (drop from input) =
-      ap (λ (i : ℕ). drop i input) past ∙ sym (drop_drop (suc (line_length (drop from input))) from input) in
+      ap (λ (i : ℕ). drop i input) past ∙ sym (drop-drop (suc (line_length (drop from input))) from input) in
       record {
         bytes = bytes;
         leads = λ b. line_leads (omega arith) h (drop from input) few (omega (arith, length-drop from input, e.place, e.inside)) (rw k at t)

@@ -9,7 +9,7 @@ use native.Mathlib.Nat.{sub-zero}
 use native.Mathlib.Omega.{arith}
 use lib.Dec.{eqb}
 use lib.ListN.{length, get_or, drop, length-drop}
-use lib.Seq.{drop_drop}
+use lib.Seq.{drop-drop}
 use borrow.Author.Tests.{le-leb, lt-leb, eq-eqb, ne_eqb}
 use borrow.Rule.Slice.PartMut.{mid_of}
 use Rattle.rules.specs.declared.Op.{Op}
@@ -42,7 +42,7 @@ module _ (s : List ℕ) (op : Op) (at y : ℕ) where
   cell_taken l f (suc r) one e =
       let k : cell_words op y ≤ length (drop at s) = omega (arith, length-drop at s) in
       let z : judge_cell (next_of s) op y (drop at s) ≡ some (drop (at + cell_words op y) s) =
-      rw (le-leb (cell_words op y) (length (drop at s)) k, f, drop_drop (cell_words op y) at s) in
+      rw (le-leb (cell_words op y) (length (drop at s)) k, f, drop-drop (cell_words op y) at s) in
       (e, omega arith, subst (λ (n : ℕ). judge_cell (next_of s) op y (drop at s) ≡ some (drop n s)) (sym e) z)
 
   pub cell_short : at ≤ length s → length s < at + cell_words op y → CellEnds s op at y 0

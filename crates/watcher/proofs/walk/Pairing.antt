@@ -6,7 +6,7 @@ use mathlib.Core.Bool.{true}
 use mathlib.Core.List.{List, [], ◌++◌, append_assoc, append-nil}
 use native.Mathlib.Omega.{arith}
 use lib.ListN.{length, get_or, take, drop, set, length-append, length-drop}
-use lib.Seq.{take_at, drop_at, take-add, drop_drop, length-take-le}
+use lib.Seq.{take_at, drop_at, take-add, drop-drop, length-take-le}
 use borrow.Rule.Slice.PartMut.{put_mid}
 use Rattle.rules.specs.declared.Op.{Op}
 use Rattle.rules.specs.declared.Op.TheVariants.{Either, Both, Without, Chain}
@@ -131,7 +131,7 @@ module _ {op : Op} {s answers base starts : List ℕ} {d at t : ℕ} (p : PairRe
           w.place ∙ pushed_end
           ∙ ap (λ (z : ℕ). b + z) (ap (possible op 0) (sym length_ys) ∙ sym (length_starts_after op [] ys new (length_new ∙ words_here))) in
           let rest : drop (at + n - at) (drop at s) ≡ drop (at + length new) s =
-          drop_drop (at + n - at) at s ∙ ap (λ (z : ℕ). drop (at + z) s) (span ∙ sym length_new) in
+          drop-drop (at + n - at) at s ∙ ap (λ (z : ℕ). drop (at + z) s) (span ∙ sym length_new) in
           record {
             place = ap (λ (z : ℕ). at + z) words_here;
             words = ap (λ (z : List ℕ). take at s ++ (new ++ z)) rest ∙ ap (λ (z : List ℕ). over at z s) e;

@@ -5,7 +5,7 @@ use mathlib.Core.Path.{◌≡◌, refl, sym, ap, subst, ◌∙◌}
 use mathlib.Core.List.{List, [], ◌∷◌, ◌++◌}
 use native.Mathlib.Omega.{arith}
 use lib.ListN.{length, get_or, take, drop, set, length-append, length-drop}
-use lib.Seq.{drop_drop, length-take-le}
+use lib.Seq.{drop-drop, length-take-le}
 use borrow.Rule.Slice.PartMut.{put_mid}
 use Rattle.rules.specs.declared.Op.{Op}
 use Rattle.rules.specs.Limits.{ticks, most_entries}
@@ -170,7 +170,7 @@ module _ {deep many t w : ℕ} {old s answers base starts : List ℕ} {at D i : 
   written : over at new s ≡ put_mid at n s new
   written =
       ap (λ (z : List ℕ). take at s ++ (new ++ z))
-      (ap (λ (k : ℕ). drop (at + k) s) length_new ∙ sym (drop_drop n at s))
+      (ap (λ (k : ℕ). drop (at + k) s) length_new ∙ sym (drop-drop n at s))
 
   next : Walking t w old (over at new s) (i + 1) (at + n) ((answer, xs ++ own) ∷ values answers base starts (D - 1))
   next = rw (written, ← starts_after_own op xs ys new) (walking_pair two h op q cell refl)

@@ -3,7 +3,7 @@ use native.Mathlib.Omega.{arith}
 use lib.ListN.{length-drop}
 use Rattle.rules.proofs.Lists.{drop_part}
 use Rattle.file.proofs.Turns.{contents_none, contents_all, contents_here, contents_more}
-use borrow.Author.Tests.{not_true, not-false}
+use borrow.Author.Tests.{not-true, not-false}
 use Rattle.file.proofs.contents.check_contents.Goals as goal
 
 pub loop-i-init : goal.loop-i-init
@@ -17,7 +17,7 @@ content_kept-requires c =
 pub returns-then-not-content_kept : goal.returns-then-not-content_kept
 returns-then-not-content_kept c =
     contents_here c.loop-i.invariant (omega arith)
-    (sym c.content_kept.ensures ∙ not_true _ c.if-not-content_kept.true)
+    (sym c.content_kept.ensures ∙ not-true _ c.if-not-content_kept.true)
 
 pub loop-i-preserved : goal.loop-i-preserved
 loop-i-preserved c =

@@ -1,7 +1,7 @@
 -- `file::parts::entry_kept_right` meets its contract: it makes the tests of `entry_kept` in their order. Assumes nothing.
 use mathlib.Core.Path.{◌≡◌, sym, ◌∙◌}
 use mathlib.Core.Bool.{true}
-use borrow.Author.Tests.{not_true, not-false, le-leb, lt-leb}
+use borrow.Author.Tests.{not-true, not-false, le-leb, lt-leb}
 use Rattle.file.specs.Contents.{named, below}
 use Rattle.file.specs.Check.{entry_kept}
 use Rattle.file.proofs.parts.entry_kept.Goals as goal
@@ -19,11 +19,11 @@ name_rises b = sym b.is_below.ensures ∙ not-false _ b.if-not-is_below.false
 
 pub returns-then-not-is_name : goal.returns-then-not-is_name
 unfolding entry_kept
-returns-then-not-is_name c = rw (sym c.is_name.ensures ∙ not_true _ c.if-not-is_name.true)
+returns-then-not-is_name c = rw (sym c.is_name.ensures ∙ not-true _ c.if-not-is_name.true)
 
 pub returns-then-not-is_below : goal.returns-then-not-is_below
 unfolding entry_kept
-returns-then-not-is_below c = rw (name_well (goal.at.returns-then-not-is_below c).Else-not-is_name, sym c.is_below.ensures ∙ not_true _ c.if-not-is_below.true)
+returns-then-not-is_below c = rw (name_well (goal.at.returns-then-not-is_below c).Else-not-is_name, sym c.is_below.ensures ∙ not-true _ c.if-not-is_below.true)
 
 pub returns-then-n-lt1 : goal.returns-then-n-lt1
 unfolding entry_kept
