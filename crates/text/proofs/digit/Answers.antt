@@ -21,8 +21,8 @@ module _ (byte d : ℕ) (e : (d + 48) % 2 ^ 8 ≡ byte) where
       go (no k) = simp (le-ltb byte 48 (omega arith), lt-leb byte 57 (omega (arith, e)))
 
 pub returns-then-d-lt10 : goal.returns-then-d-lt10
-returns-then-d-lt10 c = inside c.args.byte c.wrapping_sub_u8-d.result c.wrapping_sub_u8-d.ensures c.if-d-lt10.true
+returns-then-d-lt10 c = inside c.args.byte c.wrapping_sub_u8-d.result c.wrapping_sub_u8-d.ensures.value c.if-d-lt10.true
 
 pub returns-else-d-lt10 : goal.returns-else-d-lt10
 returns-else-d-lt10 c =
-    outside c.args.byte c.wrapping_sub_u8-d.result c.wrapping_sub_u8-d.ensures (omega arith) c.if-d-lt10.false
+    outside c.args.byte c.wrapping_sub_u8-d.result c.wrapping_sub_u8-d.ensures.value (omega arith) c.if-d-lt10.false

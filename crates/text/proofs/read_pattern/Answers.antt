@@ -1,41 +1,27 @@
--- `text::read_pattern` meets its contract. Assumes nothing.
-use Rattle.std.proofs.Common.{◌≤◌, length, replicate, refl, subst, arith}
-use Rattle.rules.specs.Limits.{most_text}
-use Rattle.text.specs.inner.Helpers.{body_length, ExpressionAt, IsExpression}
+-- `text::read_pattern` meets its contract: what `expression` promises of the whole text, in each arm, says which answer is right. Assumes nothing.
+use Rattle.std.proofs.Common.{refl, arith}
 use Rattle.text.specs.Answer.RefusedText.{long, syntax, many, room}
 use Rattle.text.proofs.Readings.{stuck, over, many_entries, no_room, made_length, all_read}
 use Rattle.text.proofs.read_pattern.Goals as goal
-use Rattle.text.proofs.read_pattern.Goals.{In-To-2}
-
-short_at : (c : In-To-2) → length c.args.text.now ≤ most_text
-short_at c = omega arith
-
--- what was read, as `expression` promises it
-whole_is : (c : In-To-2)
-    → IsExpression c.args.text.now 0 0 (replicate body_length 0)
-    c.expression-whole.new.1.1.0 c.in-To.end c.in-To.entries
-whole_is c = subst (ExpressionAt _ _ _ _ _) c.in-To.is c.expression-whole.ensures
 
 pub returns-then-text-gt-MOST_TEXT : goal.returns-then-text-gt-MOST_TEXT
 returns-then-text-gt-MOST_TEXT c = (long (record { long = omega arith }), refl)
 
 pub returns-then-end-text : goal.returns-then-end-text
-returns-then-end-text c = (syntax (over _ (omega arith) (whole_is (goal.at.returns-then-end-text c).In-To-2) (omega arith)), refl)
+returns-then-end-text c = (syntax (over _ (omega arith) c.in-To.ensures (omega arith)), refl)
 
 pub returns-then-entries-gt-MOST_ENTRIES : goal.returns-then-entries-gt-MOST_ENTRIES
-returns-then-entries-gt-MOST_ENTRIES c = (many (many_entries _ (omega arith) (whole_is (goal.at.returns-then-entries-gt-MOST_ENTRIES c).In-To-2) (omega arith) (omega arith)), refl)
+returns-then-entries-gt-MOST_ENTRIES c = (many (many_entries _ (omega arith) c.in-To.ensures (omega arith) (omega arith)), refl)
 
 pub returns-then-body-need : goal.returns-then-body-need
-returns-then-body-need c = (room (no_room _ (omega arith) (whole_is (goal.at.returns-then-body-need c).In-To-2) _ (omega arith) (omega arith) (omega arith)), refl)
+returns-then-body-need c = (room (no_room _ (omega arith) c.in-To.ensures _ (omega arith) (omega arith) (omega arith)), refl)
 
 pub slice_bounds-copy-end : goal.slice_bounds-copy-end
-slice_bounds-copy-end c = omega (arith, made_length _ (omega arith) (whole_is (goal.at.slice_bounds-copy-end c).In-To-2))
+slice_bounds-copy-end c = omega (arith, made_length _ (omega arith) c.in-To.ensures)
 
 pub returns-in-Stuck : goal.returns-in-Stuck
-returns-in-Stuck c =
-    let no = subst (ExpressionAt _ _ _ _ _) c.in-Stuck.is c.expression-whole.ensures in
-    (syntax (stuck _ (omega arith) no), refl)
+returns-in-Stuck c = (syntax (stuck _ (omega arith) c.in-Stuck.ensures), refl)
 
 pub returns-else-body-need : goal.returns-else-body-need
 returns-else-body-need c =
-    all_read _ (short_at (goal.at.returns-else-body-need c).In-To-2) (whole_is (goal.at.returns-else-body-need c).In-To-2) _ _ _ (omega arith) (omega arith) (omega arith) refl c.copy.ensures
+    all_read _ (omega arith) c.in-To.ensures _ _ _ (omega arith) (omega arith) (omega arith) refl c.copy.ensures
