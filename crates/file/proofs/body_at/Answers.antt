@@ -22,6 +22,6 @@ place_in-requires c =
 pub returns : goal.returns
 returns c =
     let a = c.args in
-    c.IsPlace-in.ensures
+    c.place_in.ensures
     ∙ ap place_in (drop_part a.file.now (bodies_at a.i))
     ∙ body_here a.file.now a.i (omega (arith, c.pattern_count.ensures.0)) (omega arith)

@@ -1,39 +1,34 @@
 -- `file::lookup` meets its contract: what was found lies in its file, so the part that is lent is the body. Assumes nothing.
-use mathlib.Core.Path.{◌≡◌, sym, ap, ◌∙◌}
+use mathlib.Core.Path.{◌≡◌, sym, ◌∙◌}
+use Prim.Native.Nat.{ℕ}
 use native.Mathlib.Omega.{arith}
 use Rattle.file.specs.declared.Whose.{Whose}
-use Rattle.file.specs.declared.Whose.TheVariants.{Site, Fleet}
+use Rattle.file.specs.declared.Finding.{Finding}
 use Rattle.file.specs.declared.Finding.TheVariants.{Found}
-use Rattle.file.specs.Lookup.{finding_of}
 use Rattle.file.proofs.Found.{finding_found, part_found, part_broken, part_refused}
 use Rattle.file.proofs.lookup.Goals as goal
-use Rattle.file.proofs.lookup.Goals.{In-Found-2}
 
 -- what was found, by the file that has it
-found : (w : In-Found-2) (x : Whose) → w.in-Found.whose ≡ x
-    → let a = w.args in
-    finding_of a.site.now a.fleet.now a.name.now ≡ Found x w.in-Found.from w.in-Found.long
-found w x e =
-    sym w.looked_up.ensures ∙ w.in-Found.is
-    ∙ ap (λ (y : Whose). Found y w.in-Found.from w.in-Found.long) e
+found : {o : Finding} {w x : Whose} {from long : ℕ} → Found w from long ≡ o → w ≡ x → o ≡ Found x from long
+found e k = cc
 
 pub overflow_add-result : goal.overflow_add-result
-overflow_add-result c = omega (arith, (finding_found _ _ _ _ _ _ (found (goal.at.overflow_add-result c).In-Found-2 Site c.in-Site.is)).within)
+overflow_add-result c = omega (arith, (finding_found _ _ _ _ _ _ (found c.in-Found.ensures c.in-Site.is)).within)
 
 pub slice_bounds-result-end : goal.slice_bounds-result-end
-slice_bounds-result-end c = (finding_found _ _ _ _ _ _ (found (goal.at.slice_bounds-result-end c).In-Found-2 Site c.in-Site.is)).within
+slice_bounds-result-end c = (finding_found _ _ _ _ _ _ (found c.in-Found.ensures c.in-Site.is)).within
 
 pub overflow_add-result-in-Fleet : goal.overflow_add-result-in-Fleet
-overflow_add-result-in-Fleet c = omega (arith, (finding_found _ _ _ _ _ _ (found (goal.at.overflow_add-result-in-Fleet c).In-Found-2 Fleet c.in-Fleet.is)).within)
+overflow_add-result-in-Fleet c = omega (arith, (finding_found _ _ _ _ _ _ (found c.in-Found.ensures c.in-Fleet.is)).within)
 
 pub slice_bounds-result-end-in-Fleet : goal.slice_bounds-result-end-in-Fleet
-slice_bounds-result-end-in-Fleet c = (finding_found _ _ _ _ _ _ (found (goal.at.slice_bounds-result-end-in-Fleet c).In-Found-2 Fleet c.in-Fleet.is)).within
+slice_bounds-result-end-in-Fleet c = (finding_found _ _ _ _ _ _ (found c.in-Found.ensures c.in-Fleet.is)).within
 
 pub returns-in-Site : goal.returns-in-Site
-returns-in-Site c = part_found _ _ _ _ _ _ (found (goal.at.returns-in-Site c).In-Found-2 Site c.in-Site.is)
+returns-in-Site c = part_found _ _ _ _ _ _ (found c.in-Found.ensures c.in-Site.is)
 
 pub returns-in-Fleet : goal.returns-in-Fleet
-returns-in-Fleet c = part_found _ _ _ _ _ _ (found (goal.at.returns-in-Fleet c).In-Found-2 Fleet c.in-Fleet.is)
+returns-in-Fleet c = part_found _ _ _ _ _ _ (found c.in-Found.ensures c.in-Fleet.is)
 
 pub returns-in-Broken : goal.returns-in-Broken
 returns-in-Broken c =

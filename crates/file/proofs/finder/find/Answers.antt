@@ -20,7 +20,7 @@ place_in-requires c =
 
 pub returns-then-is_same : goal.returns-then-is_same
 returns-then-is_same c =
-    sought_here c.loop-i.invariant (omega (arith, c.loop-i.invariant)) (sym c.is_same.ensures ∙ c.if-is_same.true) c.IsPlace-in.ensures
+    sought_here c.loop-i.invariant (omega (arith, c.loop-i.invariant)) (sym c.is_same.ensures ∙ c.if-is_same.true) c.place_in.ensures
 
 pub loop-i-preserved : goal.loop-i-preserved
 loop-i-preserved c =

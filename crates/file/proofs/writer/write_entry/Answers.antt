@@ -1,21 +1,11 @@
 -- `file::writer::write_entry` meets its contract: the name, then four bytes stored one by one. Assumes nothing.
 use Prim.Native.Nat.{◌/◌, ◌%◌}
 use mathlib.Core.Path.{refl}
-use mathlib.Core.List.{◌∷◌}
+use mathlib.Core.List.{[], ◌∷◌}
 use native.Mathlib.Omega.{arith}
-use lib.ListN.{length-set}
 use Rattle.body.specs.Bytes.{bytes_of}
 use Rattle.file.proofs.Writes.{copied_over, entry_written}
 use Rattle.file.proofs.writer.write_entry.Goals as goal
-
-pub bounds-entry-9 : goal.bounds-entry-9
-bounds-entry-9 c = simp length-set (omega arith)
-
-pub bounds-entry-10 : goal.bounds-entry-10
-bounds-entry-10 c = simp length-set (omega arith)
-
-pub bounds-entry-11 : goal.bounds-entry-11
-bounds-entry-11 c = simp length-set (omega arith)
 
 pub returns : goal.returns
 unfolding bytes_of
