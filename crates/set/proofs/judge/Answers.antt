@@ -18,7 +18,7 @@ words c = c.extent-words.ensures ∙ ap extent (drop_part c.args.states.now c.lo
 
 some : (c : Else-words-eq0)
     → 0 < extent (drop c.loop-i.at c.args.states.now)
-some c = omega (arith, words c.before)
+some c = omega (arith, c.extent-words.ensures ∙ ap extent (drop_part c.args.states.now c.loop-i.at))
 
 -- the lowest late state, by the next tick of state i
 late : (c : After-late_after-late)
