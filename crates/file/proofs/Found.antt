@@ -12,7 +12,7 @@ use Rattle.rules.specs.Limits.{argument_bytes}
 use Rattle.body.specs.declared.BodyCheck.TheVariants as Bodies
 use Rattle.body.specs.Bytes.{value_at}
 use Rattle.body.specs.Entry.{entries}
-use Rattle.body.specs.Check.{scan, verdict, check_of as bodyCheck}
+use Rattle.body.specs.Check.{scan, verdict, check_of as body_check}
 use Rattle.body.proofs.Sizes.{whole_sized, check_by}
 use Rattle.file.specs.declared.FileCheck.{FileCheck}
 use Rattle.file.specs.declared.FileCheck.TheVariants as Checks
@@ -35,7 +35,7 @@ pub record BodyIn (file name : List ℕ) (from long : ℕ) : Type 0 where
   pub counted : length name ≡ name_bytes
   pub well : named name ≡ true
   pub within : from + long ≤ length file
-  pub valid : bodyCheck argument_bytes (take long (drop from file)) ≡ Bodies.Sound
+  pub valid : body_check argument_bytes (take long (drop from file)) ≡ Bodies.Sound
 
 body_sound : (o : Option ℕ) (b : ℕ) (rest : FileCheck) → on_body o b rest ≡ Checks.Sound → (o ≡ none) × (rest ≡ Checks.Sound)
 body_sound none b rest p = (refl, p)
@@ -50,7 +50,7 @@ bodies_first n counts bodies b p =
 
 -- a body that is scanned to its end is valid
 pub body_valid : (b : List ℕ) (n : ℕ) → 1 ≤ n → n ≤ 63 → length b ≡ body_bytes n → scan (entries argument_bytes b) 0 0 ≡ none
-    → bodyCheck argument_bytes b ≡ Bodies.Sound
+    → body_check argument_bytes b ≡ Bodies.Sound
 body_valid b n l m e p = check_by argument_bytes b (whole_sized argument_bytes (length b) n (omega arith) l m) ∙ ap (verdict 0) p
 
 seek_found : (file before c name : List ℕ) (k offset i b from long : ℕ) → broken_content before c k offset i ≡ none

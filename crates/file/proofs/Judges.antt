@@ -24,7 +24,7 @@ use Rattle.body.specs.declared.BodyCheck.{BodyCheck}
 use Rattle.body.specs.declared.BodyCheck.TheVariants as Bodies
 use Rattle.body.specs.Bytes.{value_at}
 use Rattle.body.specs.Entry.{entries}
-use Rattle.body.specs.Check.{scan, verdict, check_of as bodyCheck}
+use Rattle.body.specs.Check.{scan, verdict, check_of as body_check}
 use Rattle.body.proofs.Sizes.{whole_sized, check_by}
 use Rattle.body.proofs.Scan.{left_suc, left_zero}
 use Rattle.file.specs.declared.FileCheck.{FileCheck}
@@ -102,7 +102,7 @@ total_more counts i h =
 -- what the search for a broken body says: none is broken, or the lowest that is
 data BodiesJudged (counts bodies : List ℕ) : FileCheck → Type 0 where
   broken : {b e : ℕ} → b < length counts → AllBelow b (BodyRight counts bodies)
-      → bodyCheck argument_bytes (body_of counts bodies b) ≡ Bodies.Refused (broken_at 0 e) → BodiesJudged counts bodies (Refused (broken_at b e))
+      → body_check argument_bytes (body_of counts bodies b) ≡ Bodies.Refused (broken_at 0 e) → BodiesJudged counts bodies (Refused (broken_at b e))
   unbroken : AllBelow (length counts) (BodyRight counts bodies) → BodiesJudged counts bodies Sound
 
 not_both : (x : BodyCheck) {r : Refusal} → x ≡ Bodies.Refused r → x ≡ Bodies.Sound → ⊥
@@ -116,7 +116,7 @@ bodies_one (broken {b} h l p) (unbroken a) = absurd (not_both _ p (a b h))
 bodies_one {counts} {bodies} (broken {b} {e} h l p) (broken {b = b'} {e = e'} h' l' p') =
     let same : b ≡ b' = lowest_one (BodyRight counts bodies) b b' l (not_both _ p) l' (not_both _ p') in
     let q : Bodies.Refused (broken_at 0 e) ≡ Bodies.Refused (broken_at 0 e') =
-    sym p ∙ ap (λ (i : ℕ). bodyCheck argument_bytes (body_of counts bodies i)) same ∙ p' in
+    sym p ∙ ap (λ (i : ℕ). body_check argument_bytes (body_of counts bodies i)) same ∙ p' in
     let r : broken_at 0 e ≡ broken_at 0 e' = cc in
     let place : e ≡ e' = ap entry_named r in
     cc
@@ -125,7 +125,7 @@ module _ (counts bodies : List ℕ) (whole : Whole counts bodies)
     (few : (i : ℕ) → i < length counts → (1 ≤ get_or counts i 0) × (get_or counts i 0 ≤ most_entries)) where
   -- a body of 1 to 63 entries is judged as a lone body by its entries alone
   body_judged : (b : ℕ) → b < length counts
-      → bodyCheck argument_bytes (body_of counts bodies b) ≡ verdict 0 (scan (entries argument_bytes (body_of counts bodies b)) 0 0)
+      → body_check argument_bytes (body_of counts bodies b) ≡ verdict 0 (scan (entries argument_bytes (body_of counts bodies b)) 0 0)
   body_judged b h =
       let n : ℕ = get_or counts b 0 in
       let from : ℕ = total (take b counts) in
@@ -155,7 +155,7 @@ module _ (counts bodies : List ℕ) (whole : Whole counts bodies)
       go : (o : Option ℕ)
           → scan (entries argument_bytes (take (at + body_bytes (get_or counts b 0) - at) (drop at bodies))) 0 0 ≡ o
           → AtBody counts bodies b at (get_or counts b 0) (at + body_bytes (get_or counts b 0))
-          → bodyCheck argument_bytes (body_of counts bodies b) ≡ verdict 0 o
+          → body_check argument_bytes (body_of counts bodies b) ≡ verdict 0 o
           → (BodyRight counts bodies b → Searched counts bodies (b + 1) (at + body_bytes (get_or counts b 0))
           → BodiesJudged counts bodies (broken_body counts bodies 0))
           → BodiesJudged counts bodies (broken_body counts bodies 0)

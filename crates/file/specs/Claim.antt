@@ -5,7 +5,7 @@ use Rattle.refusal.specs.declared.Refusal.{Refusal}
 use Rattle.refusal.specs.declared.Refusal.TheVariants.{Room, Absent}
 use Rattle.body.specs.declared.BodyCheck.TheVariants as Bodies
 use Rattle.body.specs.Bytes.{Bytes}
-use Rattle.body.specs.Check.{check_of as bodyCheck}
+use Rattle.body.specs.Check.{check_of as body_check}
 use Rattle.file.specs.declared.FileCheck.{FileCheck}
 use Rattle.file.specs.declared.FileCheck.TheVariants.{Sound, Refused as Unsound}
 use Rattle.file.specs.declared.Whose.{Whose}
@@ -68,7 +68,7 @@ WrittenAccepted = (names counts bodies : List ℕ) → parts_check names counts 
 abbrev pub FoundBody : Type 0
 FoundBody =
     (site fleet name : List ℕ) (whose : Whose) (from long : ℕ)
-    → finding_of site fleet name ≡ Found whose from long → bodyCheck argument_bytes (part_of (Found whose from long) site fleet) ≡ Bodies.Sound
+    → finding_of site fleet name ≡ Found whose from long → body_check argument_bytes (part_of (Found whose from long) site fleet) ≡ Bodies.Sound
 
 -- it lies within its file
 abbrev pub FoundWithin : Type 0

@@ -6,7 +6,7 @@ use Rattle.refusal.specs.declared.Refusal.TheVariants.{Count, Entry, Size}
 use Rattle.refusal.specs.Table.{broken_at}
 use Rattle.body.specs.declared.BodyCheck.TheVariants as Bodies
 use Rattle.body.specs.Bytes.{value_at}
-use Rattle.body.specs.Check.{check_of as bodyCheck}
+use Rattle.body.specs.Check.{check_of as body_check}
 use Rattle.file.specs.declared.FileCheck.{FileCheck}
 use Rattle.file.specs.declared.FileCheck.TheVariants.{Sound, Refused}
 use Rattle.file.specs.Contents.{named, below, contents_bytes, bodies_at, name_of, body_at, body_of}
@@ -19,7 +19,7 @@ AllBelow n Right = (i : ℕ) → i < n → Right i
 
 -- body number b keeps its rules: the check of a lone body accepts it
 abbrev pub BodyRight : List ℕ → List ℕ → ℕ → Type 0
-BodyRight counts bodies b = bodyCheck argument_bytes (body_of counts bodies b) ≡ Bodies.Sound
+BodyRight counts bodies b = body_check argument_bytes (body_of counts bodies b) ≡ Bodies.Sound
 
 -- which answer is called for, where Counted is the rule on the number of patterns and Right the rule on each entry of the contents:
 -- Count if Counted fails; else Entry with the lowest entry that breaks its rule; else Size if the bodies end elsewhere; else Body with the lowest body
@@ -29,7 +29,7 @@ pub data Judged (Counted : Type 0) (Right : ℕ → Type 0) (counts bodies : Lis
   entry : {i : ℕ} → Counted → i < length counts → AllBelow i Right → (Right i → ⊥) → Judged Counted Right counts bodies (Refused (Entry i))
   size : Counted → AllBelow (length counts) Right → (Whole counts bodies → ⊥) → Judged Counted Right counts bodies (Refused Size)
   body : {b e : ℕ} → Counted → AllBelow (length counts) Right → Whole counts bodies → b < length counts → AllBelow b (BodyRight counts bodies)
-      → bodyCheck argument_bytes (body_of counts bodies b) ≡ Bodies.Refused (broken_at 0 e) → Judged Counted Right counts bodies (Refused (broken_at b e))
+      → body_check argument_bytes (body_of counts bodies b) ≡ Bodies.Refused (broken_at 0 e) → Judged Counted Right counts bodies (Refused (broken_at b e))
   sound : Counted → AllBelow (length counts) Right → Whole counts bodies → AllBelow (length counts) (BodyRight counts bodies)
       → Judged Counted Right counts bodies Sound
 

@@ -14,7 +14,7 @@ ghost use Rattle.watcher.specs.Answer.{RoomAnswers, OpenAnswers, TickAnswers};
 ghost use Rattle.watcher.specs.Feed.{FeedAnswers};
 ghost use Rattle.set.specs.Set.{SetAnswers};
 ghost use Rattle.set.specs.File.{SetRoomAnswers, SetOpenAnswers};
-ghost use Rattle.tally.specs.Tallied.{added_to, status_of as tallyStatus, after};
+ghost use Rattle.tally.specs.Tallied.{added_to, status_of as tally_status, after};
 ghost use Rattle.mws.specs.Status.{status_of, Told, Done, checked, filed, reading, printing, writing, evaluating, needing, opening, ticking, feeding, settling};
 ghost use Rattle.mws.specs.Status.{RowLatest, file_bits, LookedUp};
 
@@ -261,7 +261,7 @@ pub extern "C" fn mws_set_tick(
 // Adds a window to the caller's tally. A refused window leaves the tally as it was.
 #[unsafe(no_mangle)]
 pub extern "C" fn mws_tally_add(tally: &mut Tally, start: u64, end: u64) -> u64
-    ensures { (result ≡ tallyStatus (added_to tally.old start end)) × (tally.new ≡ after tally.old (added_to tally.old start end)) }
+    ensures { (result ≡ tally_status (added_to tally.old start end)) × (tally.new ≡ after tally.old (added_to tally.old start end)) }
 {
     tally::add(tally, start, end)
 }

@@ -9,12 +9,12 @@ use Rattle.body.specs.declared.BodyCheck.TheVariants.{Sound, Refused as Unsound}
 use Rattle.body.specs.Postfix.{encode}
 use Rattle.body.specs.Check.{check_of}
 use Rattle.body.specs.Claim.{BodyOf}
-use Rattle.body.proofs.Bodies.{encode_sound, one_pattern as one-tree}
+use Rattle.body.proofs.Bodies.{encode_sound, one_pattern as one_tree}
 use Rattle.text.specs.Render.{render}
 use Rattle.text.specs.Grammar.{Broken}
 use Rattle.text.specs.Answer.{IsText, ReadingOf, PrintingOf}
 use Rattle.text.specs.Answer.RefusedText.{long, syntax, many, room}
-use Rattle.text.specs.Answer.RefusedBody.{unsound, room as text-room}
+use Rattle.text.specs.Answer.RefusedBody.{unsound, room as text_room}
 use Rattle.text.specs.Claim.{OneReading, OnePrinting}
 use Rattle.text.specs.inner.Machine.{Outcome, run}
 use Rattle.text.specs.inner.Machine.State.{want}
@@ -107,7 +107,7 @@ decision b d d' (Printed bytes) a =
     (ap₂ (λ (k : ℕ) (w : List ℕ). record { answer = Printed k; slice = w }) (sym a.counts)
     (ap (λ (k : ℕ). render a.some.tree ++ drop k d) (sym a.counts) ∙ sym a.written)))
 decision b d d' (Unprinted r) (unsound a, k) = refused r a.unsound refl k
-decision b d d' (Unprinted r) (text-room a, k) =
+decision b d d' (Unprinted r) (text_room a, k) =
     printed a.some.tree a.some.body
     (simp (lt-ltb (length d) (length (render a.some.tree)) (omega (arith, a.needs, a.lacks)))
     (ap₂ (λ (k : ℕ) (w : List ℕ). record { answer = Unprinted (Room k); slice = w }) (sym a.needs) (sym k)))
@@ -126,4 +126,4 @@ one_printing b d d₁ d₂ r₁ r₂ a₁ a₂ = go (decision b d d₁ r₁ a₁
     go (refused q₁ c₁ e₁ k₁) (printed e h p) = no_refusal b e q₁ h c₁
     go (printed e h p) (refused q₂ c₂ e₂ k₂) = no_refusal b e q₂ h c₂
     go (printed e h p) (printed e' h' p') =
-        same_result (print_of e d) _ _ p (ap (λ (x : Pattern). print_of x d) (one-tree argument_bytes (omega arith) b e e' h h') ∙ p')
+        same_result (print_of e d) _ _ p (ap (λ (x : Pattern). print_of x d) (one_tree argument_bytes (omega arith) b e e' h h') ∙ p')

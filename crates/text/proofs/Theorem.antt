@@ -14,7 +14,7 @@ use Rattle.text.specs.Claim.{Readable, OneReading, OnePrinting, AcceptedExactly,
 use Rattle.text.specs.declared.Reading.{Reading}
 use Rattle.text.specs.declared.Reading.TheVariants.{Read, Refused}
 use Rattle.text.specs.declared.Printing.TheVariants.{Printed}
-use Rattle.text.proofs.Sound.{one_pattern as one-tree}
+use Rattle.text.proofs.Sound.{one_pattern as one_tree}
 use Rattle.text.proofs.Lengths.{printed_at_most}
 use Rattle.text.proofs.Decided as Decided
 
@@ -25,7 +25,7 @@ pub one_printing : OnePrinting
 one_printing = Decided.one_printing
 
 pub one_pattern : OnePattern
-one_pattern = one-tree
+one_pattern = one_tree
 
 pub at_most_printed : AtMostPrinted
 at_most_printed b e h = printed_at_most e h.bodied.proper h.bodied.few

@@ -1,6 +1,7 @@
 -- Ticks taken many at once do what their lines do one after the other. Assumes nothing.
 use Prim.Native.Nat.{ℕ, suc, zero, ◌+◌, ◌-◌, ◌*◌, ◌<◌, ◌≤◌}
 use mathlib.Core.Path.{◌≡◌, refl, ap, ◌∙◌}
+use mathlib.Core.Logic.{inl, inr}
 use mathlib.Core.List.{List, [], ◌∷◌, ◌++◌, append_assoc}
 use native.Mathlib.Omega.{arith}
 use lib.ListN.{length, get_or, take, drop, length-append, length-take}
@@ -19,13 +20,14 @@ use Rattle.watching.specs.declared.Chunked.{Chunked}
 use Rattle.watching.specs.declared.batch.Gathered.{Gathered}
 use Rattle.watching.specs.Answer.{Acted, LineTaken}
 use Rattle.watching.specs.Answer.FurtherLine.{window, nothing}
-use Rattle.watching.specs.Answer.Acted.{silent, added, full}
+use Rattle.watching.specs.Answer.Acted.{silent}
 use Rattle.watching.specs.Answer.LineTaken.{further}
 use Rattle.watching.specs.Chunk.{most_held, TakesBytes}
 use Rattle.watching.specs.inner.Progress.{line_length, Progress, Ready}
 use Rattle.watching.specs.inner.Batch.{most_ticks, most_reported, TickLines, Gathers, Fair, FarFromFull, answer_at, AllReported, ReportAllReady, IsAllReported}
 use Rattle.watching.specs.inner.Batch.TickLines.{none as lines_none, more as lines_more}
-use Rattle.watching.specs.inner.Batch.AllReported.{none as reports-none, more as reports-more}
+use Rattle.watching.specs.inner.Batch.AllReported.{none as reports_none, more as reports_more}
+use Rattle.watching.proofs.Acts.{acted_window}
 use Rattle.watching.proofs.TakingBytes.{line_leads}
 use Rattle.watching.proofs.Progress.{writes_on}
 
@@ -72,16 +74,19 @@ reported_line (suc start) p r k x = further p (window r k) x
 reported_short : {run run₁ : Run} {t : ℕ} {bytes : List ℕ} (a : ℕ) → Fair t a → Acted run (answer_at t a) run₁ bytes → run₁.phase ≡ 1
     → length bytes ≤ most_written
 reported_short zero f silent p = omega arith
-reported_short {t = t} (suc start) f (added e) p = (at_most_written start t (omega (arith, f.range, f.within)) (omega (arith, f.range))).0
-reported_short (suc start) f (full e) p = absurd (omega arith)
+reported_short {t = t} (suc start) f y p =
+    elim (acted_window y) [
+      | inl w ↦ rw w.line (at_most_written start t (omega (arith, f.range, f.within)) (omega (arith, f.range))).0
+      | inr w ↦ absurd (omega (arith, w.ends))
+    ]
 
 -- lines read, fed and reported lead to what follows them
 batch_leads : {room : ℕ} {run run' run'' : Run} {input ts ws answers left s s' s'' h'' bytes rest over : List ℕ} → run.phase ≡ 1
     → most_written * length ts ≤ room → TickLines input ts ws left → AllTicked s (paired ts ws) answers s' → AllReported run ts answers run' bytes
     → TakesBytes (room - length bytes) run' [] s' left run'' h'' s'' rest over → TakesBytes room run [] s input run'' h'' s'' (bytes ++ rest) over
 unfolding paired
-batch_leads {room} p q lines_none All-none reports-none b = let none : room - 0 ≡ room = omega arith in rw none at b
-batch_leads {room} {input = input} {rest = rest} p q (lines_more {ts = ts} t w ended read lines) (All-more _ _ a k all) (reports-more {bytes = bytes} {rest = others} _ _ acted phase reports) b =
+batch_leads {room} p q lines_none All-none reports_none b = let none : room - 0 ≡ room = omega arith in rw none at b
+batch_leads {room} {input = input} {rest = rest} p q (lines_more {ts = ts} t w ended read lines) (All-more _ _ a k all) (reports_more {bytes = bytes} {rest = others} _ _ acted phase reports) b =
     let short = reported_short a (ticked_fair k) acted phase in
     let whole : take most_held (take (line_length input) input) ≡ take (line_length input) input =
     take_all most_held (take (line_length input) input) (omega (arith, read.short)) in

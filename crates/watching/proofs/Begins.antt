@@ -7,7 +7,7 @@ use Rattle.watching.specs.declared.Run.{Run}
 use Rattle.watching.specs.Runs.{fresh, finish_line}
 use Rattle.watching.specs.Answer.{LineTaken}
 use Rattle.watching.specs.Whole.{lines_from, Takes, Prints}
-use Rattle.watching.specs.Whole.Takes.{more as next-line}
+use Rattle.watching.specs.Whole.Takes.{more as next_line}
 use Rattle.watching.specs.Chunk.{most_held, hold, TakesBytes}
 use Rattle.watching.specs.Chunk.TakesBytes.{all, full, byte, line}
 use Rattle.watching.specs.Claim.{OutputBegins}
@@ -30,7 +30,7 @@ record Rest (run : Run) (s : List ℕ) (ls : List (List ℕ)) (last : Run) (s'' 
 
 first_line : {run run₁ last : Run} {l s s₁ s'' bytes written : List ℕ} {ls : List (List ℕ)} → LineTaken run l s s₁ run₁ bytes
     → Takes run s (l ∷ ls) last s'' written → Rest run₁ s₁ ls last s'' bytes written
-first_line x (next-line {rest = rest} y k) =
+first_line x (next_line {rest = rest} y k) =
     let u = one_line _ _ _ _ _ _ _ _ _ y x in
     record { rest = rest; same = rw u.2; takes = rw (u.0, u.1) at k }
 

@@ -9,12 +9,12 @@ use lib.ListN.{length, take}
 use lib.Seq.{length-take-le, take_all, take-append-le}
 use Rattle.rules.specs.Limits.{most_text}
 use Rattle.text.specs.Answer.RefusedText.{long, syntax, many, room}
-use Rattle.line.specs.Answer.RefusedLine.{long as long-line, malformed, range}
+use Rattle.line.specs.Answer.RefusedLine.{long as long_line, malformed, range}
 use Rattle.watching.specs.declared.Run.{Run}
 use Rattle.watching.specs.declared.LineAnswer.{LineAnswer}
 use Rattle.watching.specs.Answer.{FirstLine, FurtherLine, LineTaken}
 use Rattle.watching.specs.Answer.FirstLine.{unread as no_text, unopened, opened}
-use Rattle.watching.specs.Answer.FurtherLine.{unread as no-tick, unticked, window, nothing}
+use Rattle.watching.specs.Answer.FurtherLine.{unread as no_tick, unticked, window, nothing}
 use Rattle.watching.specs.Answer.LineTaken.{first, further, after}
 use Rattle.watching.specs.Chunk.{most_held, hold}
 
@@ -30,9 +30,9 @@ module _ (h l : List ℕ) (over : most_text < length h) (over' : most_text < len
 
   -- and so they are as a further line
   long_further : {s s' : List ℕ} {a : LineAnswer} → FurtherLine h s s' a → FurtherLine l s s' a
-  long_further (no-tick (long-line x) k) = no-tick (long-line over') k
-  long_further (no-tick (malformed x) k) = no-tick (long-line over') k
-  long_further (no-tick (range x) k) = absurd (omega (arith, x.short))
+  long_further (no_tick (long_line x) k) = no_tick (long_line over') k
+  long_further (no_tick (malformed x) k) = no_tick (long_line over') k
+  long_further (no_tick (range x) k) = absurd (omega (arith, x.short))
   long_further (unticked x y) = absurd (omega (arith, x.short))
   long_further (window x y) = absurd (omega (arith, x.short))
   long_further (nothing x y) = absurd (omega (arith, x.short))

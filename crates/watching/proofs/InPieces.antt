@@ -13,7 +13,7 @@ use Rattle.watching.specs.Answer.{Acted, LineTaken}
 use Rattle.watching.specs.Answer.Acted.{silent, added, full as over, refused}
 use Rattle.watching.specs.Answer.LineTaken.{first, further, after}
 use Rattle.watching.specs.Whole.{lines_from, Takes, Prints}
-use Rattle.watching.specs.Whole.Takes.{more as next-line}
+use Rattle.watching.specs.Whole.Takes.{more as next_line}
 use Rattle.watching.specs.Chunk.{most_held, hold, last_lines, TakesBytes, Ends}
 use Rattle.watching.specs.Chunk.TakesBytes.{all, full, byte, line}
 use Rattle.watching.proofs.Held.{held_taken, hold_held}
@@ -57,7 +57,7 @@ bytes_reach l e (line {input = input} p x k) =
     record {
       begins = r.begins;
       held = r.held;
-      leads = λ later t. rw (lines_feed l (input ++ later), append_assoc) (next-line (held_taken l (rw e at x)) (r.leads later t));
+      leads = λ later t. rw (lines_feed l (input ++ later), append_assoc) (next_line (held_taken l (rw e at x)) (r.leads later t));
     }
 
 watches_reach : {run run' : Run} {h h' s s' input bytes : List ℕ} (l : List ℕ) → h ≡ take most_held l → Watches run h s input run' h' s' bytes
@@ -133,7 +133,7 @@ last_taken : {run last : Run} {s s' bytes : List ℕ} (l : List ℕ) → (Unmove
     → Takes run s (last_lines run (take most_held l)) last s' bytes → Takes run s (lines_from l []) last s' bytes
 unfolding lines_from
 last_taken {run} [] n k = rw (ne_eqb run.phase 0 (λ e. n (record { first = e; empty = refl }))) at k
-last_taken (c ∷ l) n (next-line x k) = next-line (held_taken (c ∷ l) x) k
+last_taken (c ∷ l) n (next_line x k) = next_line (held_taken (c ∷ l) x) k
 
 pub pieces_print : (s s₁ s' input bytes last h : List ℕ) (run : Run) → Watches fresh [] s input run h s₁ bytes → Ends run h s₁ s' last
     → Prints s input (bytes ++ last)

@@ -1,3 +1,4 @@
+pub mod Acts
 pub mod Writings
 pub mod Takings
 pub mod Whole

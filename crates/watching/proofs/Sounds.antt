@@ -2,6 +2,7 @@
 -- Assumes nothing.
 use Prim.Native.Nat.{ℕ, suc, ◌-◌, ◌*◌, ◌^◌, ◌≤◌, ◌<◌}
 use mathlib.Core.Path.{◌≡◌, refl, ap}
+use mathlib.Core.Logic.{inl, inr}
 use mathlib.Core.List.{List, ◌++◌}
 use native.Mathlib.Omega.{arith}
 use lib.ListN.{length, take, drop}
@@ -32,13 +33,14 @@ use Rattle.watching.specs.Runs.{next_run}
 use Rattle.watching.specs.declared.LineAnswer.TheVariants.{Refused}
 use Rattle.watching.specs.Answer.{no_body, FirstLine, FurtherLine}
 use Rattle.watching.specs.Answer.FirstLine.{unread as no_text, unopened, opened}
-use Rattle.watching.specs.Answer.FurtherLine.{unread as no-tick, unticked, window, nothing}
-use Rattle.watching.specs.Answer.Acted.{silent, added, full, refused}
+use Rattle.watching.specs.Answer.FurtherLine.{unread as no_tick, unticked, window, nothing}
+use Rattle.watching.specs.Answer.Acted.{silent}
 use Rattle.watching.specs.Answer.LineTaken.{first, further, after}
 use Rattle.watching.specs.Whole.{Takes}
 use Rattle.watching.specs.Whole.Takes.{none, more}
 use Rattle.watching.specs.Claim.{AreTicks, Sound, SoundAccepted, SoundPrinted}
 use Rattle.watching.specs.Claim.AreTicks.{none as no_lines, tick as line}
+use Rattle.watching.proofs.Acts.{acted_window}
 use Rattle.watching.proofs.Reports.{added_fits}
 use Rattle.watching.proofs.Batches.{ticked_fair}
 use Rattle.watching.proofs.Whole.{read_body, output_agrees}
@@ -92,7 +94,7 @@ module _ (b : List ℕ) (e : Pattern) (body : BodyOf argument_bytes b e) where
   -- a tick that is allowed is not refused
   not_refused : {h : List Tick} {s s' l : List ℕ} {t w : ℕ} {r : Refusal} → Watched b h s → IsTick l t w → next_tick 0 h ≤ t
       → FurtherLine l s s' (Refused r) → ⊥
-  not_refused {l = l} {t = t} {w = w} {r = r} x i late (no-tick y k) =
+  not_refused {l = l} {t = t} {w = w} {r = r} x i late (no_tick y k) =
       let q = one_reading l (Lines.Tick t w) (Lines.Refused r) i y in
       impossible cc
   not_refused {h} {s} {s'} {l} {t} {w} {r} x i late (unticked {t = t'} {w = w'} y k) =
@@ -103,19 +105,20 @@ module _ (b : List ℕ) (e : Pattern) (body : BodyOf argument_bytes b e) where
       → AreTicks ls k → Rising (next_tick 0 h) k → Takes run s ls run' s' bytes → run'.phase ≡ 1
   sound_runs x f p no_lines r none = p
   sound_runs x f p (line t w i a) r (more (first z j y) g) = absurd (omega arith)
-  sound_runs x f p (line t w i a) r (more (further z (no-tick j k) refused) g) = absurd (not_refused x i r.0 (no-tick j k))
-  sound_runs x f p (line t w i a) r (more (further z (unticked j k) refused) g) = absurd (not_refused x i r.0 (unticked j k))
-  sound_runs {h} {run = run} x f p (line t w i a) r (more {l = l} (further z (window {t = t'} {w = w'} {start} j k) (added {tally = tally} y)) g) =
+  sound_runs x f p (line t w i a) r (more (further z (no_tick j k) y) g) = absurd (not_refused x i r.0 (no_tick j k))
+  sound_runs x f p (line t w i a) r (more (further z (unticked j k) y) g) = absurd (not_refused x i r.0 (unticked j k))
+  sound_runs {h} {run = run} x f p (line t w i a) r (more {l = l} (further z (window {t = t'} {w = w'} {start} j k) y) g) =
       let q = one_tick l t w t' w' i.line j.line in
       let late : next_tick 0 h ≤ t' = omega (arith, q.0, r.0) in
       let next = next_tick_snoc 0 h (t', w') in
-      sound_runs (windowed t' w' start x k)
-      (rw next (few_more run (next_tick 0 h) start t' f late j.range tally (omega (arith, (ticked_fair k).within)) y))
-      refl a (rw (next, ← q.0) r.1) g
-  sound_runs {h} {run = run} x f p (line t w i a) r (more {l = l} (further z (window {t = t'} {w = w'} {start} j k) (full y)) g) =
-      let q = one_tick l t w t' w' i.line j.line in
-      let late : next_tick 0 h ≤ t' = omega (arith, q.0, r.0) in
-      absurd (never_full run (next_tick 0 h) start t' f late j.range (omega (arith, (ticked_fair k).within)) y)
+      let within : start ≤ t' = omega (arith, (ticked_fair k).within) in
+      elim (acted_window y) [
+        | inl c ↦
+            sound_runs (windowed t' w' start x k)
+            (rw (next, c.next) (few_more run (next_tick 0 h) start t' f late j.range c.tally within c.adds))
+            (rw c.next refl) a (rw (next, ← q.0) r.1) g
+        | inr c ↦ absurd (never_full run (next_tick 0 h) start t' f late j.range within c.refuses)
+      ]
   sound_runs {h} {run = run} x f p (line t w i a) r (more {l = l} (further z (nothing {t = t'} {w = w'} j k) silent) g) =
       let q = one_tick l t w t' w' i.line j.line in
       let late : next_tick 0 h ≤ t' = omega (arith, q.0, r.0) in
@@ -127,8 +130,8 @@ module _ (b : List ℕ) (e : Pattern) (body : BodyOf argument_bytes b e) where
 pub sound_accepted : SoundAccepted
 sound_accepted s s' p bytes ls run x h (more (first z (opened {body} {bytes = n} i j) silent) g) =
     sound_runs (take n body) i.some.tree (read_body i) (watched j) (record { windows = omega arith; ticks = omega arith }) refl x.lines x.rising g
-sound_accepted s s' p bytes ls run x h (more (first z (no_text i j) refused) g) = absurd (not_unopened x h (no_text i j))
-sound_accepted s s' p bytes ls run x h (more (first z (unopened i j) refused) g) = absurd (not_unopened x h (unopened i j))
+sound_accepted s s' p bytes ls run x h (more (first z (no_text i j) y) g) = absurd (not_unopened x h (no_text i j))
+sound_accepted s s' p bytes ls run x h (more (first z (unopened i j) y) g) = absurd (not_unopened x h (unopened i j))
 sound_accepted s s' p bytes ls run x h (more (further z i y) g) = absurd (omega arith)
 sound_accepted s s' p bytes ls run x h (more (after z i) g) = absurd (omega arith)
 

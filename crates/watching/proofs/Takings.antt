@@ -64,7 +64,7 @@ module _ (run : Run) (d d' : List ℕ) (q : most_written ≤ length d) where
   }
 
 -- a window that the tally refuses
-full_acted : {run run' : Run} {bytes : List ℕ} {start t : ℕ} {r : Refusal} → added_to run.tally start t ≡ Adds.Refused r
+full_acted : {run run' : Run} {start t : ℕ} {r : Refusal} {bytes : List ℕ} → added_to run.tally start t ≡ Adds.Refused r
     → Acted run (Refused r) run' bytes → Acted run (Window start t) run' bytes
 full_acted e refused = full e
 

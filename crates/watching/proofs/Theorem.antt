@@ -20,7 +20,7 @@ pub sound_printed : SoundPrinted
 sound_printed = Sounds.sound_printed
 
 pub input_prints : InputPrints
-input_prints = goal.input-prints
+input_prints = goal.input_prints
 
 pub output_begins : OutputBegins
 output_begins = Begins.output_begins

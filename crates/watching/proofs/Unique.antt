@@ -25,7 +25,7 @@ use Rattle.watching.specs.declared.LineAnswer.TheVariants.{Nothing, Window, Refu
 use Rattle.watching.specs.Runs.{next_run}
 use Rattle.watching.specs.Answer.{no_body, FirstLine, FurtherLine, Acted, LineTaken, refusing}
 use Rattle.watching.specs.Answer.FirstLine.{unread as no_text, unopened, opened}
-use Rattle.watching.specs.Answer.FurtherLine.{unread as no-tick, unticked, window, nothing}
+use Rattle.watching.specs.Answer.FurtherLine.{unread as no_tick, unticked, window, nothing}
 use Rattle.watching.specs.Answer.Acted.{silent, added, full, refused}
 use Rattle.watching.specs.Answer.LineTaken.{first, further, after}
 
@@ -84,7 +84,7 @@ record By-line (l s s' : List ℕ) (a : LineAnswer) : Type 0 where
 
 by_line : {l s s' : List ℕ} {a : LineAnswer} → FurtherLine l s s' a → By-line l s s' a
 unfolding ticking_of
-by_line (no-tick {r} x e) = record { reading = Lines.Refused r; read = x; ticks = (refl, e) }
+by_line (no_tick {r} x e) = record { reading = Lines.Refused r; read = x; ticks = (refl, e) }
 by_line (unticked {t} {w} {r} x y) = record { reading = Lines.Tick t w; read = x; ticks = (Ticks.Refused r, y, refl) }
 by_line (window {t} {w} {start} x y) = record { reading = Lines.Tick t w; read = x; ticks = (Ticks.Window start, y, refl) }
 by_line (nothing {t} {w} x y) = record { reading = Lines.Tick t w; read = x; ticks = (Ticks.Nothing, y, refl) }

@@ -1,6 +1,7 @@
 -- As long as no line is refused the state is a watched one, so each tick's window is the rules' own. Assumes nothing.
 use Prim.Native.Nat.{ℕ, suc, ◌≤◌, ◌<◌}
-use mathlib.Core.Path.{◌≡◌, refl, sym, ap, ◌∙◌}
+use mathlib.Core.Path.{◌≡◌, refl, sym, ap, subst, ◌∙◌}
+use mathlib.Core.Logic.{inl, inr}
 use mathlib.Core.List.{List, [], ◌∷◌, ◌++◌}
 use lib.ListN.{length, take, drop}
 use lib.Seq.{take_at}
@@ -21,7 +22,7 @@ use Rattle.watcher.proofs.Theorem.{agrees}
 use Rattle.tally.specs.declared.Tally.{Tally}
 use Rattle.tally.specs.declared.Adding.TheVariants.{Added}
 use Rattle.tally.specs.Tallied.{added_to}
-use Rattle.tally.specs.Claim.{Window, span, Adds, one, none as no-windows}
+use Rattle.tally.specs.Claim.{Window, span, Adds, one, none as no_windows}
 use Rattle.tally.proofs.Theorem.{sums}
 use Rattle.line.specs.Lines.{window_line, tally_line}
 use Rattle.line.specs.Answer.{IsTick}
@@ -29,14 +30,15 @@ use Rattle.watching.specs.declared.Run.{Run}
 use Rattle.watching.specs.Runs.{fresh, next_run, finish_line}
 use Rattle.watching.specs.Answer.{no_body}
 use Rattle.watching.specs.Answer.FirstLine.{unread as no_text, unopened, opened}
-use Rattle.watching.specs.Answer.FurtherLine.{unread as no-tick, unticked, window, nothing}
-use Rattle.watching.specs.Answer.Acted.{silent, added, full, refused}
+use Rattle.watching.specs.Answer.FurtherLine.{unread as no_tick, unticked, window, nothing}
+use Rattle.watching.specs.Answer.Acted.{silent}
 use Rattle.watching.specs.Answer.LineTaken.{first, further, after}
 use Rattle.watching.specs.Whole.{Takes}
 use Rattle.watching.specs.Whole.Takes.{none, more}
 use Rattle.watching.specs.Claim.{AreTicks, Reports, window_lines, LinesAgree, OutputAgrees}
+use Rattle.watching.proofs.Acts.{refused_ends, acted_window}
 use Rattle.watching.specs.Claim.AreTicks.{none as no_lines, tick as line}
-use Rattle.watching.specs.Claim.Reports.{none as no-reports, tick as report}
+use Rattle.watching.specs.Claim.Reports.{none as no_reports, tick as report}
 
 -- a run that has ended stays so
 stays_ended : {run run' : Run} {s s' bytes : List ℕ} {ls : List (List ℕ)} → 1 < run.phase → Takes run s ls run' s' bytes → 1 < run'.phase
@@ -103,16 +105,21 @@ module _ (b : List ℕ) (e : Pattern) (body : BodyOf argument_bytes b e) where
     lines = no_lines;
     rising = tt;
     windows = [];
-    reports = no-reports;
+    reports = no_reports;
     written = refl;
-    adds = no-windows;
+    adds = no_windows;
   }
   all_accepted x p (more (first z i y) k) q = absurd (omega arith)
-  all_accepted x p (more (further z (no-tick i j) refused) k) q = absurd (omega (arith, stays_ended (omega arith) k))
-  all_accepted x p (more (further z (unticked i j) refused) k) q = absurd (omega (arith, stays_ended (omega arith) k))
-  all_accepted {h} {run} {run'} {s} x p (more {l = l} {s₁ = s₁} {rest = rest} {ls = ls} (further z (window {t} {w} {start} i j) (added {tally = tally} y)) k) q =
-      with_window h run run' l s s₁ rest ls t w x i start tally j y (all_accepted (windowed t w start x j) refl k q)
-  all_accepted x p (more (further z (window i j) (full y)) k) q = absurd (omega (arith, stays_ended (omega arith) k))
+  all_accepted x p (more (further z (no_tick i j) y) k) q = absurd (omega (arith, stays_ended (refused_ends y) k))
+  all_accepted x p (more (further z (unticked i j) y) k) q = absurd (omega (arith, stays_ended (refused_ends y) k))
+  all_accepted {h} {run} {run'} {s} x p (more {l = l} {s₁ = s₁} {rest = rest} {ls = ls} (further z (window {t} {w} {start} i j) y) k) q =
+      elim (acted_window y) [
+        | inl a ↦
+            rw a.line
+            (with_window h run run' l s s₁ rest ls t w x i start a.tally j a.adds
+            (subst (λ r. Accepted e (h ++ ((t, w) ∷ [])) r run' ls rest) a.next (all_accepted (windowed t w start x j) (rw a.next refl) k q)))
+        | inr a ↦ absurd (omega (arith, stays_ended a.ends k))
+      ]
   all_accepted {h} {run} {run'} {s} x p (more {l = l} {s₁ = s₁} {rest = rest} {ls = ls} (further z (nothing {t} {w} i j) silent) k) q =
       without_window h run run' l s s₁ rest ls t w x i j (all_accepted (unmoved t w x j) refl k q)
   all_accepted x p (more (after z i) k) q = absurd (omega arith)
@@ -140,8 +147,8 @@ lines_agree s s' p bytes ls run (more (first z (opened {body} {bytes = n} i j) s
       counted = omega (arith, m.0);
       summed = omega (arith, m.1);
     }
-lines_agree s s' p bytes ls run (more (first z (no_text i j) refused) k) q = absurd (omega (arith, stays_ended (omega arith) k))
-lines_agree s s' p bytes ls run (more (first z (unopened i j) refused) k) q = absurd (omega (arith, stays_ended (omega arith) k))
+lines_agree s s' p bytes ls run (more (first z (no_text i j) y) k) q = absurd (omega (arith, stays_ended (refused_ends y) k))
+lines_agree s s' p bytes ls run (more (first z (unopened i j) y) k) q = absurd (omega (arith, stays_ended (refused_ends y) k))
 lines_agree s s' p bytes ls run (more (further z i y) k) q = absurd (omega arith)
 lines_agree s s' p bytes ls run (more (after z i) k) q = absurd (omega arith)
 
