@@ -93,7 +93,7 @@ batch_leads {room} {input = input} {rest = rest} p q (lines_more {ts = ts} t w e
     let left : room - length (bytes ++ others) ≡ room - length bytes - length others = omega (arith, length-append bytes others) in
     rw (append_assoc bytes others rest)
     (line_leads (omega arith) {bytes = bytes} [] input (omega arith) ended (rw whole (reported_line a p read k acted))
-    (batch_leads phase (omega arith) lines all reports (rw left at b)))
+    (batch_leads {room = room - length bytes} phase (omega arith) lines all reports (rw left at b)))
 
 pub batch_progress : {input s s' d e ts ws old new : List ℕ} {p : Chunked} {g : Gathered} {taken : Taken} → Ready input d p → FarFromFull p.run
     → p.written + most_reported ≤ length d → Gathers input p.used ts ws g → IsFed s (take (g.count - 0) ts) (take (g.count - 0) ws) old s' new

@@ -3,7 +3,7 @@
 use Prim.Native.Nat.{ℕ, suc, ◌-◌, ◌*◌, ◌^◌, ◌≤◌, ◌<◌}
 use mathlib.Core.Path.{◌≡◌, refl, ap}
 use mathlib.Core.Logic.{inl, inr}
-use mathlib.Core.List.{List, ◌++◌}
+use mathlib.Core.List.{List, [], ◌∷◌, ◌++◌}
 use native.Mathlib.Omega.{arith}
 use lib.ListN.{length, take, drop}
 use Rattle.rules.proofs.Impossible.{impossible}
@@ -114,7 +114,7 @@ module _ (b : List ℕ) (e : Pattern) (body : BodyOf argument_bytes b e) where
       let within : start ≤ t' = omega (arith, (ticked_fair k).within) in
       elim (acted_window y) [
         | inl c ↦
-            sound_runs (windowed t' w' start x k)
+            sound_runs {h = h ++ ((t', w') ∷ [])} (windowed t' w' start x k)
             (rw (next, c.next) (few_more run (next_tick 0 h) start t' f late j.range c.tally within c.adds))
             (rw c.next refl) a (rw (next, ← q.0) r.1) g
         | inr c ↦ absurd (never_full run (next_tick 0 h) start t' f late j.range within c.refuses)
@@ -123,7 +123,7 @@ module _ (b : List ℕ) (e : Pattern) (body : BodyOf argument_bytes b e) where
       let q = one_tick l t w t' w' i.line j.line in
       let late : next_tick 0 h ≤ t' = omega (arith, q.0, r.0) in
       let next = next_tick_snoc 0 h (t', w') in
-      sound_runs (unmoved t' w' x k) (rw next (few_still run (next_tick 0 h) 0 t' f late j.range)) refl a
+      sound_runs {h = h ++ ((t', w') ∷ [])} (unmoved t' w' x k) (rw next (few_still run (next_tick 0 h) 0 t' f late j.range)) refl a
       (rw (next, ← q.0) r.1) g
   sound_runs x f p (line t w i a) r (more (after z j) g) = absurd (omega arith)
 

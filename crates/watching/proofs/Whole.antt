@@ -117,11 +117,11 @@ module _ (b : List ℕ) (e : Pattern) (body : BodyOf argument_bytes b e) where
         | inl a ↦
             rw a.line
             (with_window h run run' l s s₁ rest ls t w x i start a.tally j a.adds
-            (subst (λ r. Accepted e (h ++ ((t, w) ∷ [])) r run' ls rest) a.next (all_accepted (windowed t w start x j) (rw a.next refl) k q)))
+            (subst (λ r. Accepted e (h ++ ((t, w) ∷ [])) r run' ls rest) a.next (all_accepted {h = h ++ ((t, w) ∷ [])} (windowed t w start x j) (rw a.next refl) k q)))
         | inr a ↦ absurd (omega (arith, stays_ended a.ends k))
       ]
   all_accepted {h} {run} {run'} {s} x p (more {l = l} {s₁ = s₁} {rest = rest} {ls = ls} (further z (nothing {t} {w} i j) silent) k) q =
-      without_window h run run' l s s₁ rest ls t w x i j (all_accepted (unmoved t w x j) refl k q)
+      without_window h run run' l s s₁ rest ls t w x i j (all_accepted {h = h ++ ((t, w) ∷ [])} (unmoved t w x j) refl k q)
   all_accepted x p (more (after z i) k) q = absurd (omega arith)
 
 -- the body that line 1 is read into is that of its text's pattern
