@@ -5,7 +5,8 @@
 ghost use Rattle.std.specs.Prelude.{◌≤◌, ◌<◌, ◌≡◌, length, cond};
 ghost use Rattle.watch.specs.Watch.{no_fault, write_failed, Enough, SomeTaken, ChunkTaken, ReadTaken, InputTaken, InputEnded};
 
-use libc::{STDIN_FILENO, STDOUT_FILENO};
+use std::io;
+use std::io::Read;
 use watching::{Chunked, Chunking, Finishing};
 
 // Nothing failed; a read did; a write did.
@@ -30,28 +31,49 @@ struct Wrote {
     fault: u64,
 }
 
-fn main() {
+// Standard input, output and error; and why the last read or write that failed did.
+#[derive(Drop)]
+struct Streams {
+    rt: HostRuntime,
+    why: Option<io::Error>,
+}
+
+fn main(rt: HostRuntime) {
     let mut state = [0u64; 4096];
     let mut chunk = [0u8; 65536];
     let mut part = [0u8; 1025];
     let mut out = [0u8; 65536];
-    report(watch(&mut state, &mut chunk, &mut part, &mut out));
+    let mut streams = Streams { rt: rt, why: None };
+    let fault = watch(&mut streams, &mut state, &mut chunk, &mut part, &mut out);
+    report(&streams, fault);
 }
 
 // Watches the whole input, and answers what failed.
-fn watch(state: &mut [u64], chunk: &mut [u8], part: &mut [u8], out: &mut [u8]) -> u64
+fn watch(
+    streams: &mut Streams,
+    state: &mut [u64],
+    chunk: &mut [u8],
+    part: &mut [u8],
+    out: &mut [u8],
+) -> u64
     requires { Enough state.old part.old out.old }
 {
-    let p = take_all(state, chunk, part, out);
+    let p = take_all(streams, state, chunk, part, out);
     if p.fault != NO_FAULT {
         return p.fault;
     }
-    let last = finish(p, part, state, out);
+    let last = finish(streams, p, part, state, out);
     last.fault
 }
 
 // Takes the input to its end, to a refusal, or to a fault. A proved loop has to end, so it counts its turns down, from a number that no run uses up.
-fn take_all(state: &mut [u64], chunk: &mut [u8], part: &mut [u8], out: &mut [u8]) -> Progress
+fn take_all(
+    streams: &mut Streams,
+    state: &mut [u64],
+    chunk: &mut [u8],
+    part: &mut [u8],
+    out: &mut [u8],
+) -> Progress
     requires { Enough state.old part.old out.old }
     ensures { InputTaken part.old part.new state.old state.new result }
 {
@@ -66,11 +88,22 @@ fn take_all(state: &mut [u64], chunk: &mut [u8], part: &mut [u8], out: &mut [u8]
     };
     let mut turns: u64 = 0xffff_ffff_ffff_ffff;
     while 0 < turns {
-        let got = libc::read(STDIN_FILENO, chunk);
-        p = take_read(p, got, chunk, part, state, out);
+        let got = read(streams, chunk);
+        p = take_read(streams, p, got, chunk, part, state, out);
         turns = turns_left(turns, got, p);
     }
     p
+}
+
+// Reads what there is of the input, at most as much as the buffer holds: the number of bytes, 0 at its end, -1 where the read failed.
+fn read(streams: &mut Streams, buffer: &mut [u8]) -> isize {
+    match streams.rt.stdin().read(buffer) {
+        Ok(n) => n as isize,
+        Err(e) => {
+            streams.why = Some(e);
+            -1
+        }
+    }
 }
 
 // None at the end of the input, nor after a refusal or a fault.
@@ -94,6 +127,7 @@ fn turns_left(turns: u64, got: isize, p: Progress) -> u64
 
 // Takes what a read put in the buffer, by what it answered.
 fn take_read(
+    streams: &mut Streams,
     p: Progress,
     got: isize,
     buffer: &[u8],
@@ -111,12 +145,13 @@ fn take_read(
             fault: READ_FAILED,
         };
     }
-    let n = io::count(got, buffer);
-    take_chunk(p, &buffer[0..n], part, state, out)
+    let n = (got as usize).min(buffer.len());
+    take_chunk(streams, p, &buffer[0..n], part, state, out)
 }
 
 // Takes all of a chunk, unless a write fails.
 fn take_chunk(
+    streams: &mut Streams,
     first: Progress,
     chunk: &[u8],
     part: &mut [u8],
@@ -132,7 +167,7 @@ fn take_chunk(
         if p.fault != NO_FAULT {
             return p;
         }
-        p = take_some(p, &chunk[at..], part, state, out);
+        p = take_some(streams, p, &chunk[at..], part, state, out);
         let taken = p.taken;
         at += taken.used;
     }
@@ -141,6 +176,7 @@ fn take_chunk(
 
 // Takes as much of the input as there is room for its output, and writes that. Nothing is refused, since `part` is long enough.
 fn take_some(
+    streams: &mut Streams,
     p: Progress,
     input: &[u8],
     part: &mut [u8],
@@ -156,7 +192,7 @@ fn take_some(
     match watching::take_chunk(run, taken.held, input, part, state, out) {
         Chunking::Taken(c) => {
             let later = c.run;
-            let wrote = write_first(p, out, c.written);
+            let wrote = write_first(streams, p, out, c.written);
             Progress {
                 taken: Chunked {
                     run: later,
@@ -172,14 +208,20 @@ fn take_some(
 }
 
 // Ends the input, and writes what is left to report. Nothing is refused, since there is enough room.
-fn finish(p: Progress, part: &[u8], state: &mut [u64], out: &mut [u8]) -> Wrote
+fn finish(
+    streams: &mut Streams,
+    p: Progress,
+    part: &[u8],
+    state: &mut [u64],
+    out: &mut [u8],
+) -> Wrote
     requires { (p.fault ≡ 0) × Enough state.old part.now out.old }
     ensures { InputEnded p part.now state.old state.new out.old out.new result }
 {
     let taken = p.taken;
     let run = taken.run;
     match watching::finish(run, taken.held, part, state, out) {
-        Finishing::Finished(n) => write_first(p, out, n),
+        Finishing::Finished(n) => write_first(streams, p, out, n),
         Finishing::Refused(_) => Wrote {
             bytes: 0,
             fault: NO_FAULT,
@@ -188,11 +230,22 @@ fn finish(p: Progress, part: &[u8], state: &mut [u64], out: &mut [u8]) -> Wrote
 }
 
 // Hands the first bytes to the writer. After a fault nothing may be written.
-fn write_first(p: Progress, out: &[u8], n: usize) -> Wrote
+fn write_first(streams: &mut Streams, p: Progress, out: &[u8], n: usize) -> Wrote
     requires { (p.fault ≡ 0) × (n ≤ length out.now) }
     ensures { result.bytes ≡ n }
 {
-    outcome(io::write_all(STDOUT_FILENO, &out[0..n]), n)
+    outcome(write(streams, &out[0..n]), n)
+}
+
+// Writes all of the bytes, at once and through no buffer; and whether that was done.
+fn write(streams: &mut Streams, bytes: &[u8]) -> bool {
+    match streams.rt.write_all(bytes) {
+        Ok(()) => true,
+        Err(e) => {
+            streams.why = Some(e);
+            false
+        }
+    }
 }
 
 // What the writer's answer means: whether it took all.
@@ -212,11 +265,18 @@ fn outcome(all: bool, n: usize) -> Wrote
 }
 
 // Says what failed, and why.
-fn report(fault: u64) {
+fn report(streams: &Streams, fault: u64) {
     if fault == READ_FAILED {
-        os::fail(&[b'r', b'e', b'a', b'd']);
+        fail(streams, "read");
     }
     if fault == WRITE_FAILED {
-        os::fail(&[b'w', b'r', b'i', b't', b'e']);
+        fail(streams, "write");
+    }
+}
+
+// Nothing can be said of a line on standard error that fails.
+fn fail(streams: &Streams, what: &str) {
+    if let Some(why) = streams.why {
+        let _ = eprintln!(streams.rt; "{what}: {why}");
     }
 }
