@@ -1,46 +1,50 @@
 // Bodies that keep the rules, and bodies that break each of them.
 use crate::show;
 use body::BodyCheck;
+use std::io;
 
-pub(crate) fn run() {
-    check(b"body: A", &[0, 0, 0, 0, 0]);
-    check(b"body: type 31", &[0, 31, 0, 0, 0]);
-    check(b"body: type 32", &[0, 32, 0, 0, 0]);
-    check(b"body: type 256", &[0, 0, 1, 0, 0]);
-    check(b"body: empty", &[]);
-    check(b"body: 4 bytes", &[0, 0, 0, 0]);
-    check(b"body: 6 bytes", &[0, 0, 0, 0, 0, 0]);
-    check(b"body: op 6", &[6, 0, 0, 0, 0]);
-    check(b"body: | without operands", &[1, 0, 0, 0, 0]);
-    check(b"body: A ;", &[0, 0, 0, 0, 0, 4, 0, 0, 0, 0]);
-    check(b"body: A B", &[0, 0, 0, 0, 0, 0, 1, 0, 0, 0]);
+pub(crate) fn run(rt: HostRuntime) -> io::Result<()> {
+    check(rt, b"body: A", &[0, 0, 0, 0, 0])?;
+    check(rt, b"body: type 31", &[0, 31, 0, 0, 0])?;
+    check(rt, b"body: type 32", &[0, 32, 0, 0, 0])?;
+    check(rt, b"body: type 256", &[0, 0, 1, 0, 0])?;
+    check(rt, b"body: empty", &[])?;
+    check(rt, b"body: 4 bytes", &[0, 0, 0, 0])?;
+    check(rt, b"body: 6 bytes", &[0, 0, 0, 0, 0, 0])?;
+    check(rt, b"body: op 6", &[6, 0, 0, 0, 0])?;
+    check(rt, b"body: | without operands", &[1, 0, 0, 0, 0])?;
+    check(rt, b"body: A ;", &[0, 0, 0, 0, 0, 4, 0, 0, 0, 0])?;
+    check(rt, b"body: A B", &[0, 0, 0, 0, 0, 0, 1, 0, 0, 0])?;
     check(
+        rt,
         b"body: A B ;",
         &[0, 0, 0, 0, 0, 0, 1, 0, 0, 0, 4, 0, 0, 0, 0],
-    );
+    )?;
     check(
+        rt,
         b"body: A B ; with an argument",
         &[0, 0, 0, 0, 0, 0, 1, 0, 0, 0, 4, 1, 0, 0, 0],
-    );
+    )?;
     check(
+        rt,
         b"body: A @4294967295",
         &[0, 0, 0, 0, 0, 5, 255, 255, 255, 255],
-    );
-    check(b"body: @1", &[5, 1, 0, 0, 0]);
-    longest();
+    )?;
+    check(rt, b"body: @1", &[5, 1, 0, 0, 0])?;
+    longest(rt)
 }
 
 // 63 letters are several trees, and a 64th is no entry.
-fn longest() {
+fn longest(rt: HostRuntime) -> io::Result<()> {
     let many = [0u8; 315];
-    check(b"body: 63 letters", &many);
+    check(rt, b"body: 63 letters", &many)?;
     let more = [0u8; 320];
-    check(b"body: 64 letters", &more);
+    check(rt, b"body: 64 letters", &more)
 }
 
-fn check(name: &[u8], body: &[u8]) {
+fn check(rt: HostRuntime, name: &[u8], body: &[u8]) -> io::Result<()> {
     match body::check_body(body) {
-        BodyCheck::Sound => show::line(name, 0, 0, 0),
-        BodyCheck::Refused(r) => show::refused(name, r),
+        BodyCheck::Sound => show::line(rt, name, 0, 0, 0),
+        BodyCheck::Refused(r) => show::refused(rt, name, r),
     }
 }

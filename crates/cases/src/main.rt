@@ -10,12 +10,14 @@ mod tallies;
 mod texts;
 mod watches;
 
-fn main() {
-    bodies::run();
-    texts::run();
-    watches::run();
-    sets::run();
-    tallies::run();
-    files::run();
-    runs::run();
+use std::io;
+
+fn main(rt: HostRuntime) -> io::Result<()> {
+    bodies::run(rt)?;
+    texts::run(rt)?;
+    watches::run(rt)?;
+    sets::run(rt)?;
+    tallies::run(rt)?;
+    files::run(rt)?;
+    runs::run(rt)
 }

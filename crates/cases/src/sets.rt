@@ -2,35 +2,34 @@
 use crate::show;
 use file::Writing;
 use set::SetTicking;
+use std::io;
 use watcher::{Needed, Opening};
 
-pub(crate) fn run() {
+pub(crate) fn run(rt: HostRuntime) -> io::Result<()> {
     let mut file = [0u8; 433];
-    make(&mut file);
-    whole(&file);
-    short(&file);
-    faults(&file);
+    make(rt, &mut file)?;
+    whole(rt, &file)?;
+    short(rt, &file)?;
+    faults(rt, &file)
 }
 
 // Writes the file of 16 patterns.
-fn make(file: &mut [u8]) {
+fn make(rt: HostRuntime, file: &mut [u8]) -> io::Result<()> {
     let names =
         b"P00     P01     P02     P03     P04     P05     P06     P07     P08     P09     P10     P11     P12     P13     P14     P15     ";
     let counts = [3u8; 16];
     let mut bodies = [0u8; 240];
     fill(&mut bodies);
     match file::write_file(names, &counts, &bodies, file) {
-        Writing::Written(n) => show::line(b"set: file", 0, n as u64, 0),
-        Writing::Refused(r) => show::refused(b"set: file", r),
+        Writing::Written(n) => show::line(rt, b"set: file", 0, n as u64, 0),
+        Writing::Refused(r) => show::refused(rt, b"set: file", r),
     }
 }
 
 // Fills a slice with the bodies of `(A;B)`, end to end.
 fn fill(bodies: &mut [u8]) {
-    let mut at: usize = 0;
-    while at < bodies.len() {
-        bodies[at] = body_byte(at % 15);
-        at += 1;
+    for (at, b) in bodies.iter_mut().enumerate() {
+        *b = body_byte(at % 15);
     }
 }
 
@@ -46,60 +45,82 @@ fn body_byte(at: usize) -> u8 {
 }
 
 // Opened, ticked twice, and numbers of states that there are not.
-fn whole(file: &[u8]) {
-    show_room(file);
+fn whole(rt: HostRuntime, file: &[u8]) -> io::Result<()> {
+    show_room(rt, file)?;
     let mut states = [0u64; 112];
-    open(b"set: open", file, &mut states);
+    open(rt, b"set: open", file, &mut states)?;
     let mut answers = [9u64; 17];
-    tick(b"set: 5 A", &mut states, 16, 5, 1, &mut answers);
-    tick(b"set: 6 B", &mut states, 16, 6, 2, &mut answers);
-    tick(b"set: none", &mut states, 0, 7, 2, &mut answers);
-    tick(b"set: 17 states", &mut states, 17, 7, 2, &mut answers);
-    tick(b"set: over", &mut states, 16, 4294967296, 2, &mut answers);
-    tick(b"set: late", &mut states, 16, 6, 2, &mut answers);
+    tick(rt, b"set: 5 A", &mut states, 16, 5, 1, &mut answers)?;
+    tick(rt, b"set: 6 B", &mut states, 16, 6, 2, &mut answers)?;
+    tick(rt, b"set: none", &mut states, 0, 7, 2, &mut answers)?;
+    tick(rt, b"set: 17 states", &mut states, 17, 7, 2, &mut answers)?;
+    tick(
+        rt,
+        b"set: over",
+        &mut states,
+        16,
+        4294967296,
+        2,
+        &mut answers,
+    )?;
+    tick(rt, b"set: late", &mut states, 16, 6, 2, &mut answers)?;
     let mut few = [9u64; 15];
     tick(
+        rt,
         b"set: answers one too short",
         &mut states,
         16,
         7,
         2,
         &mut few,
-    );
+    )
 }
 
 // A slice one word too short, to open in and to tick.
-fn short(file: &[u8]) {
+fn short(rt: HostRuntime, file: &[u8]) -> io::Result<()> {
     let mut states = [0u64; 111];
-    open(b"set: open, one word too short", file, &mut states);
+    open(rt, b"set: open, one word too short", file, &mut states)?;
     let mut whole = [0u64; 112];
-    open(b"set: open", file, &mut whole);
+    open(rt, b"set: open", file, &mut whole)?;
     let mut answers = [9u64; 16];
-    tick_first(b"set: one word too short", &mut whole, 111, &mut answers);
+    tick_first(
+        rt,
+        b"set: one word too short",
+        &mut whole,
+        111,
+        &mut answers,
+    )
 }
 
-fn tick_first(name: &[u8], states: &mut [u64], words: usize, answers: &mut [u64]) {
+fn tick_first(
+    rt: HostRuntime,
+    name: &[u8],
+    states: &mut [u64],
+    words: usize,
+    answers: &mut [u64],
+) -> io::Result<()> {
     if words <= states.len() {
-        tick(name, &mut states[0..words], 16, 5, 1, answers);
+        tick(rt, name, &mut states[0..words], 16, 5, 1, answers)?;
     }
+    Ok(())
 }
 
 // A state broken, or ahead of the others, at index 0, 7 and 15.
-fn faults(file: &[u8]) {
-    fault(b"set: state 0 broken", file, 0, 0);
-    fault(b"set: state 7 broken", file, 49, 0);
-    fault(b"set: state 15 broken", file, 105, 0);
-    fault(b"set: state 0 late", file, 1, 100);
-    fault(b"set: state 7 late", file, 50, 100);
-    fault(b"set: state 15 late", file, 106, 100);
+fn faults(rt: HostRuntime, file: &[u8]) -> io::Result<()> {
+    fault(rt, b"set: state 0 broken", file, 0, 0)?;
+    fault(rt, b"set: state 7 broken", file, 49, 0)?;
+    fault(rt, b"set: state 15 broken", file, 105, 0)?;
+    fault(rt, b"set: state 0 late", file, 1, 100)?;
+    fault(rt, b"set: state 7 late", file, 50, 100)?;
+    fault(rt, b"set: state 15 late", file, 106, 100)
 }
 
-fn fault(name: &[u8], file: &[u8], at: usize, word: u64) {
+fn fault(rt: HostRuntime, name: &[u8], file: &[u8], at: usize, word: u64) -> io::Result<()> {
     let mut states = [0u64; 112];
     set::open(file, &mut states);
     store(&mut states, at, word);
     let mut answers = [9u64; 16];
-    tick(name, &mut states, 16, 5, 1, &mut answers);
+    tick(rt, name, &mut states, 16, 5, 1, &mut answers)
 }
 
 fn store(states: &mut [u64], at: usize, word: u64) {
@@ -108,25 +129,33 @@ fn store(states: &mut [u64], at: usize, word: u64) {
     }
 }
 
-fn show_room(file: &[u8]) {
+fn show_room(rt: HostRuntime, file: &[u8]) -> io::Result<()> {
     match set::room(file) {
-        Needed::Words(n) => show::line(b"set: room", 0, n as u64, 0),
-        Needed::Refused(r) => show::refused(b"set: room", r),
+        Needed::Words(n) => show::line(rt, b"set: room", 0, n as u64, 0),
+        Needed::Refused(r) => show::refused(rt, b"set: room", r),
     }
 }
 
-fn open(name: &[u8], file: &[u8], states: &mut [u64]) {
+fn open(rt: HostRuntime, name: &[u8], file: &[u8], states: &mut [u64]) -> io::Result<()> {
     match set::open(file, states) {
-        Opening::Opened => show::line(name, 0, 0, 0),
-        Opening::Refused(r) => show::refused(name, r),
+        Opening::Opened => show::line(rt, name, 0, 0, 0),
+        Opening::Refused(r) => show::refused(rt, name, r),
     }
 }
 
 // Prints the first and the last answer of an accepted tick.
-fn tick(name: &[u8], states: &mut [u64], count: u64, t: u64, events: u32, answers: &mut [u64]) {
+fn tick(
+    rt: HostRuntime,
+    name: &[u8],
+    states: &mut [u64],
+    count: u64,
+    t: u64,
+    events: u32,
+    answers: &mut [u64],
+) -> io::Result<()> {
     match set::tick(states, count, t, events, answers) {
-        SetTicking::Ticked => show::line(name, 0, word(answers, 0), word(answers, 15)),
-        SetTicking::Refused(r) => show::refused(name, r),
+        SetTicking::Ticked => show::line(rt, name, 0, word(answers, 0), word(answers, 15)),
+        SetTicking::Refused(r) => show::refused(rt, name, r),
     }
 }
 

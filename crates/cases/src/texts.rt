@@ -1,58 +1,60 @@
 // Pattern text at the edges: the syntax places, the most entries, the most bytes, and reading back what was printed.
 use crate::show;
-use libc::STDOUT_FILENO;
+use std::io;
 use text::{Printing, Reading};
 
-pub(crate) fn run() {
-    read(b"text: empty", b"");
-    read(b"text: (A;B", b"(A;B");
-    read(b"text: (A;B))", b"(A;B))");
-    read(b"text: (A@07)", b"(A@07)");
-    read(b"text: (A@4294967296)", b"(A@4294967296)");
-    read(b"text: g", b"g");
-    read(b"text: (A @1)", b"(A @1)");
-    read(b"text: (A@4294967295)", b"(A@4294967295)");
-    read(b"text: f", b"f");
-    most();
-    print(b"text back: ", b"(((S;P)@600)-Y)");
-    print(b"text back: ", b"(((B;B)@2)-(P|T))");
-    print(b"text back: ", b"((A+b)|(f@0))");
+pub(crate) fn run(rt: HostRuntime) -> io::Result<()> {
+    read(rt, b"text: empty", b"")?;
+    read(rt, b"text: (A;B", b"(A;B")?;
+    read(rt, b"text: (A;B))", b"(A;B))")?;
+    read(rt, b"text: (A@07)", b"(A@07)")?;
+    read(rt, b"text: (A@4294967296)", b"(A@4294967296)")?;
+    read(rt, b"text: g", b"g")?;
+    read(rt, b"text: (A @1)", b"(A @1)")?;
+    read(rt, b"text: (A@4294967295)", b"(A@4294967295)")?;
+    read(rt, b"text: f", b"f")?;
+    most(rt)?;
+    print(rt, b"text back: ", b"(((S;P)@600)-Y)")?;
+    print(rt, b"text back: ", b"(((B;B)@2)-(P|T))")?;
+    print(rt, b"text back: ", b"((A+b)|(f@0))")
 }
 
 // 62 restrictions pass, 63 are Many; 1,024 bytes are read, 1,025 are Long.
-fn most() {
+fn most(rt: HostRuntime) -> io::Result<()> {
     read(
+        rt,
         b"text: 62 restrictions",
         b"((((((((((((((((((((((((((((((((((((((((((((((((((((((((((((((A@1)@1)@1)@1)@1)@1)@1)@1)@1)@1)@1)@1)@1)@1)@1)@1)@1)@1)@1)@1)@1)@1)@1)@1)@1)@1)@1)@1)@1)@1)@1)@1)@1)@1)@1)@1)@1)@1)@1)@1)@1)@1)@1)@1)@1)@1)@1)@1)@1)@1)@1)@1)@1)@1)@1)@1)@1)@1)@1)@1)@1)@1)",
-    );
+    )?;
     read(
+        rt,
         b"text: 63 restrictions",
         b"(((((((((((((((((((((((((((((((((((((((((((((((((((((((((((((((A@1)@1)@1)@1)@1)@1)@1)@1)@1)@1)@1)@1)@1)@1)@1)@1)@1)@1)@1)@1)@1)@1)@1)@1)@1)@1)@1)@1)@1)@1)@1)@1)@1)@1)@1)@1)@1)@1)@1)@1)@1)@1)@1)@1)@1)@1)@1)@1)@1)@1)@1)@1)@1)@1)@1)@1)@1)@1)@1)@1)@1)@1)@1)",
-    );
+    )?;
     let deep = [40u8; 1024];
-    read(b"text: 1,024 brackets", &deep);
+    read(rt, b"text: 1,024 brackets", &deep)?;
     let long = [40u8; 1025];
-    read(b"text: 1,025 brackets", &long);
+    read(rt, b"text: 1,025 brackets", &long)
 }
 
 // Prints the bytes of body written, or the refusal.
-fn read(name: &[u8], pattern: &[u8]) {
+fn read(rt: HostRuntime, name: &[u8], pattern: &[u8]) -> io::Result<()> {
     let mut body = [0u8; 315];
     match text::read_pattern(pattern, &mut body) {
-        Reading::Read(bytes) => show::line(name, 0, bytes as u64, 0),
-        Reading::Refused(r) => show::refused(name, r),
+        Reading::Read(bytes) => show::line(rt, name, 0, bytes as u64, 0),
+        Reading::Refused(r) => show::refused(rt, name, r),
     }
 }
 
 // Prints the text that is printed from what was read.
-fn print(name: &[u8], pattern: &[u8]) {
+fn print(rt: HostRuntime, name: &[u8], pattern: &[u8]) -> io::Result<()> {
     let mut body = [0u8; 315];
     let bytes = read_bytes(pattern, &mut body);
     let mut back = [0u8; 807];
     let long = print_bytes(&body, bytes, &mut back);
-    io::write_all(STDOUT_FILENO, name);
-    show::first(&back, long);
-    io::write_all(STDOUT_FILENO, b"\n");
+    rt.write_all(name)?;
+    show::first(rt, &back, long)?;
+    rt.write_all(b"\n")
 }
 
 // The bytes of body written, 0 if the text is refused.

@@ -1,7 +1,7 @@
 // Lines and fields of the vectors.
 ghost use Rattle.std.specs.Prelude.{◌<◌, ◌≤◌, length};
 
-use libc::STDOUT_FILENO;
+use std::io;
 use text::Reading;
 
 // A length in five digits.
@@ -90,15 +90,14 @@ pub(crate) fn read_bytes(pattern: &[u8], body: &mut [u8]) -> usize {
 }
 
 // Prints a number, after a space unless it is the first of its line.
-pub(crate) fn print(n: u64, first: bool) {
+pub(crate) fn print(rt: HostRuntime, n: u64, first: bool) -> io::Result<()> {
     if first {
-        io::print_decimal(STDOUT_FILENO, n);
+        print!(rt; "{n}")
     } else {
-        io::write_all(STDOUT_FILENO, b" ");
-        io::print_decimal(STDOUT_FILENO, n);
+        print!(rt; " {n}")
     }
 }
 
-pub(crate) fn end_line() {
-    io::write_all(STDOUT_FILENO, b"\n");
+pub(crate) fn end_line(rt: HostRuntime) -> io::Result<()> {
+    rt.write_all(b"\n")
 }

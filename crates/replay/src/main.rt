@@ -7,43 +7,46 @@ mod fields;
 mod plainly;
 mod watched;
 
-use libc::STDIN_FILENO;
+use std::io;
+use std::io::Read;
 
-fn main() {
-    let mut turns: u32 = 1000000;
-    while 0 < turns {
-        if replay() {
-            turns -= 1;
-        } else {
-            turns = 0;
+fn main(rt: HostRuntime) -> io::Result<()> {
+    for _ in 0..1_000_000 {
+        if !replay(rt)? {
+            break;
         }
     }
+    Ok(())
 }
 
 // Whether there was a vector to replay.
-fn replay() -> bool {
+fn replay(rt: HostRuntime) -> io::Result<bool> {
     let mut head = [0u8; 6];
-    if io::read_full(STDIN_FILENO, &mut head) < 6 {
-        return false;
+    if !read_full(rt, &mut head) {
+        return Ok(false);
     }
-    let mut vector = io::buffer();
-    replay_next(&mut vector, fields::read_length(head))
+    let mut vector = [0u8; 4096];
+    replay_next(rt, &mut vector, fields::read_length(head))
 }
 
 // Reads the next `long` bytes and replays them as a vector.
-fn replay_next(vector: &mut [u8], long: usize) -> bool {
+fn replay_next(rt: HostRuntime, vector: &mut [u8], long: usize) -> io::Result<bool> {
     if vector.len() < long {
-        return false;
+        return Ok(false);
     }
-    let got = io::read_full(STDIN_FILENO, &mut vector[0..long]);
-    if got < long {
-        return false;
+    if !read_full(rt, &mut vector[0..long]) {
+        return Ok(false);
     }
-    replay_vector(&vector[0..long]);
-    true
+    replay_vector(rt, &vector[0..long])?;
+    Ok(true)
 }
 
-fn replay_vector(vector: &[u8]) {
+// Whether the input had enough bytes to fill a slice.
+fn read_full(rt: HostRuntime, bytes: &mut [u8]) -> bool {
+    rt.stdin().read_exact(bytes).is_ok()
+}
+
+fn replay_vector(rt: HostRuntime, vector: &[u8]) -> io::Result<()> {
     let first = fields::line_end(vector, 0);
     let second = fields::after(vector, first);
     let middle = fields::line_end(vector, second);
@@ -51,6 +54,6 @@ fn replay_vector(vector: &[u8]) {
     let last = fields::line_end(vector, third);
     let mut body = [0u8; 315];
     let bytes = fields::read_bytes(&vector[0..first], &mut body);
-    watched::watch(&body, bytes, &vector[second..middle]);
-    plainly::evaluate(&body, bytes, &vector[third..last]);
+    watched::watch(rt, &body, bytes, &vector[second..middle])?;
+    plainly::evaluate(rt, &body, bytes, &vector[third..last])
 }

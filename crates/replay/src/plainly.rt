@@ -3,17 +3,18 @@ ghost use Rattle.std.specs.Prelude.{◌<◌, ◌≤◌, ◌+◌, length};
 
 use crate::fields;
 use plain::{Evaluation, Start};
+use std::io;
 
-pub(crate) fn evaluate(body: &[u8], bytes: usize, words: &[u8]) {
+pub(crate) fn evaluate(rt: HostRuntime, body: &[u8], bytes: usize, words: &[u8]) -> io::Result<()> {
     if body.len() < bytes {
-        return;
+        return Ok(());
     }
     let mut events = [0u32; 64];
     let ticks = read_words(words, &mut events);
     let mut rows = [0u64; 4032];
     let from = last_rows(&body[0..bytes], &events, ticks, &mut rows);
-    latest(&rows, from, ticks);
-    counts(&rows, from, ticks);
+    latest(rt, &rows, from, ticks)?;
+    counts(rt, &rows, from, ticks)
 }
 
 // The event words of a line, at most 64.
@@ -51,19 +52,17 @@ fn last_rows(body: &[u8], events: &[u32], ticks: usize, rows: &mut [u64]) -> usi
     }
 }
 
-fn latest(rows: &[u64], from: usize, ticks: usize) {
-    let mut e: usize = 0;
-    while e < ticks {
+fn latest(rt: HostRuntime, rows: &[u64], from: usize, ticks: usize) -> io::Result<()> {
+    for e in 0..ticks {
         if rows.len() <= from {
-            return;
+            return Ok(());
         }
         if rows.len() - from <= e {
-            return;
+            return Ok(());
         }
-        fields::print(start_of(rows[from + e]), e == 0);
-        e += 1;
+        fields::print(rt, start_of(rows[from + e]), e == 0)?;
     }
-    fields::end_line();
+    fields::end_line(rt)
 }
 
 // start + 1, or 0.
@@ -74,17 +73,15 @@ fn start_of(row: u64) -> u64 {
     }
 }
 
-fn counts(rows: &[u64], from: usize, ticks: usize) {
-    let mut e: usize = 0;
-    while e < ticks {
+fn counts(rt: HostRuntime, rows: &[u64], from: usize, ticks: usize) -> io::Result<()> {
+    for e in 0..ticks {
         if rows.len() <= from {
-            return;
+            return Ok(());
         }
         if rows.len() - from <= e {
-            return;
+            return Ok(());
         }
-        fields::print(plain::instances(rows[from + e]) as u64, e == 0);
-        e += 1;
+        fields::print(rt, plain::instances(rows[from + e]) as u64, e == 0)?;
     }
-    fields::end_line();
+    fields::end_line(rt)
 }

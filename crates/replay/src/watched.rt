@@ -1,16 +1,17 @@
 // What the watcher says at each tick of a record.
 use crate::fields;
+use std::io;
 use watcher::{Opening, Ticking};
 
-pub(crate) fn watch(body: &[u8], bytes: usize, ticks: &[u8]) {
+pub(crate) fn watch(rt: HostRuntime, body: &[u8], bytes: usize, ticks: &[u8]) -> io::Result<()> {
     if body.len() < bytes {
-        return;
+        return Ok(());
     }
     let mut state = [0u64; 4096];
     if opened(&body[0..bytes], &mut state) {
-        answers(&mut state, ticks);
+        answers(rt, &mut state, ticks)?;
     }
-    fields::end_line();
+    fields::end_line(rt)
 }
 
 fn opened(body: &[u8], state: &mut [u64]) -> bool {
@@ -21,7 +22,7 @@ fn opened(body: &[u8], state: &mut [u64]) -> bool {
 }
 
 // The answer at each `tick:events` of a line.
-fn answers(state: &mut [u64], ticks: &[u8]) {
+fn answers(rt: HostRuntime, state: &mut [u64], ticks: &[u8]) -> io::Result<()> {
     let mut at: usize = 0;
     while at < ticks.len() {
         let first = at == 0;
@@ -30,9 +31,14 @@ fn answers(state: &mut [u64], ticks: &[u8]) {
         if at < ticks.len() {
             let w = fields::read_field(ticks, at);
             at = w.next;
-            fields::print(answer(state, t.value, (w.value % 4294967296) as u32), first);
+            fields::print(
+                rt,
+                answer(state, t.value, (w.value % 4294967296) as u32),
+                first,
+            )?;
         }
     }
+    Ok(())
 }
 
 // start + 1, 0 for none; a refused tick is none of these.
