@@ -1,5 +1,5 @@
 #!/usr/bin/env python3
-"""Runs the watch program (`rt check watch` builds it) where a read or a write fails or stalls.
+"""Runs the watch program (`rt run` in crates/watch builds it) where a read or a write fails or stalls.
 
     python3 tests/watch_faults.py
 
@@ -101,30 +101,25 @@ class Case:
 failures = 0
 
 
-def judged(name, ran, wanted, fault, signalled=None):
-    """Judges what a run wrote, where a 'read' or a 'write' must have failed, 'any' may have failed or none (None), or a
-    signal ended the program."""
+def judged(name, ran, wanted, fault):
+    """Judges what a run wrote, where a 'read' or a 'write' must have failed, 'any' may have failed or none (None)."""
     global failures
     got, error, status = ran
     faults = []
     if not wanted.startswith(got):
         at = next((i for i, (a, b) in enumerate(zip(got, wanted)) if a != b), min(len(got), len(wanted)))
         faults.append('the output goes wrong at byte %d: %r' % (at, got[max(0, at - 40):at + 40]))
-    if signalled is not None:
-        if status != -signalled:
-            faults.append('exit status %d, not signal %d' % (status, signalled))
-    else:
-        said = FAILED.fullmatch(error)
-        if error and not said:
-            faults.append('on standard error: %r' % error)
-        if status < 0:
-            faults.append('ended by signal %d' % -status)
-        if got != wanted and not said:
-            faults.append('%d of %d bytes came out, and no fault was reported' % (len(got), len(wanted)))
-        if fault in ('read', 'write') and not (said and said.group(1).decode() == fault):
-            faults.append('no %s fault was reported: %r' % (fault, error))
-        if not fault and error:
-            faults.append('a fault was reported where there was none: %r' % error)
+    said = FAILED.fullmatch(error)
+    if error and not said:
+        faults.append('on standard error: %r' % error)
+    if status < 0:
+        faults.append('ended by signal %d' % -status)
+    if got != wanted and not said:
+        faults.append('%d of %d bytes came out, and no fault was reported' % (len(got), len(wanted)))
+    if fault in ('read', 'write') and not (said and said.group(1).decode() == fault):
+        faults.append('no %s fault was reported: %r' % (fault, error))
+    if not fault and error:
+        faults.append('a fault was reported where there was none: %r' % error)
     for line in faults:
         print('%s: %s' % (name, line))
     failures += bool(faults)
@@ -164,7 +159,7 @@ def main():
     judged('a late reader of a non-blocking pipe', case.run(stdout='unblocked', late=True), wanted, 'write')
     judged('a reader of a non-blocking pipe', brief.run(stdout='unblocked'), short_wanted, None)
 
-    judged('a reader that leaves', case.run(limit=10000), wanted, 'write', signalled=signal.SIGPIPE)
+    judged('a reader that leaves', case.run(limit=10000), wanted, 'write')
     judged('a reader that leaves, SIGPIPE ignored', case.run(limit=10000, restore_signals=False), wanted, 'write')
     judged('a reader that leaves at once', case.run(limit=0, restore_signals=False), wanted, 'write')
 

@@ -1,5 +1,5 @@
 #!/usr/bin/env python3
-"""Runs the watch program (`rt check watch` builds it) on random patterns and records, and compares its output with the rules.
+"""Runs the watch program (`rt run` in crates/watch builds it) on random patterns and records, and compares its output with the rules.
 
     python3 tests/watch_random.py [CASES]
 
@@ -15,7 +15,7 @@ import time
 from make_vectors import TYPES, instances, latest, pattern, text, word
 
 SEED = 20261115
-WATCH = 'target/bin/watch'
+WATCH = 'crates/watch/out/watch'
 
 
 def events(w):

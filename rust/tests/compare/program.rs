@@ -18,10 +18,10 @@ fn program() -> Option<PathBuf> {
         assert!(named.is_file(), "MWS_WATCH names {}, and there is no such file", named.display());
         return Some(named);
     }
-    let built = Path::new(env!("CARGO_MANIFEST_DIR")).join("../target/bin/watch");
+    let built = Path::new(env!("CARGO_MANIFEST_DIR")).join("../crates/watch/out/watch");
     if !built.is_file() {
         let missing = built.display();
-        writeln!(stderr(), "SKIPPED: no watch program at {missing}; run `rt check watch`, or name it in MWS_WATCH")
+        writeln!(stderr(), "SKIPPED: no watch program at {missing}; run `rt run` in crates/watch, or name it in MWS_WATCH")
             .unwrap();
         return None;
     }
