@@ -8,11 +8,10 @@ use mir.Syntax.{w64}
 use mir.Val.{SFits, to_z, of_z}
 use mir.ValLaws.{to_z-of_z}
 use mathlib.Core.Bool.{true, false}
-use lib.IntN.{ℤ, pos, negsuc}
+use lib.IntN.{ℤ, pos, negsuc, nat_abs}
 use lib.Signed.{lt_z}
 use borrow.Author.Tests.{ltb-true}
 use Rattle.rules.proofs.Impossible.{impossible}
-use Rattle.io.specs.Counts.{clamp_len}
 use lib.ListN.{length, take, drop, length-append, length-take, length-drop, drop_of_length-le}
 use lib.Seq.{take_at, take-add, take_all}
 use Rattle.watching.specs.declared.Run.{Run}
@@ -132,14 +131,14 @@ module _ (got : ℤ) (fits : SFits w64 got) where
   read_failed_holds {buffer} {part} {state} {p} h = go got (rw back at h) refl
     where
       go : (z : ℤ) → lt_z z (pos 0) ≡ true → got ≡ z → ReadTaken p got buffer part part state state (record { taken = p.taken; fault = read_failed })
-      go (pos n) h e = absurd (omega (arith, ltb-true n 0 h))
+      go (pos n) h e = absurd (grind (arith, h))
       go (negsuc n) h e = failed e refl refl refl
 
   -- one that did not
   pub read_some : {buffer part part' state state' : List ℕ} {p r : Progress} {n : ℕ} → lt_z bits (pos 0) ≡ false
-      → n ≡ clamp_len bits (length buffer) → ChunkTaken p (take (n - 0) buffer) part part' state state' r → ReadTaken p got buffer part part' state state' r
+      → n ≡ min (nat_abs bits) (length buffer) → ChunkTaken p (take (n - 0) buffer) part part' state state' r → ReadTaken p got buffer part part' state state' r
   read_some {buffer} {part} {part'} {state} {state'} {p} {r} {n} h q t = go got (rw back at h) refl (rw back at q)
     where
-      go : (z : ℤ) → lt_z z (pos 0) ≡ false → got ≡ z → n ≡ clamp_len z (length buffer) → ReadTaken p got buffer part part' state state' r
-      go (pos k) h e q = let m : n - 0 ≡ min k (length buffer) = omega (arith, q) in some e (rw m at t)
-      go (negsuc k) h e q = impossible cc
+      go : (z : ℤ) → lt_z z (pos 0) ≡ false → got ≡ z → n ≡ min (nat_abs z) (length buffer) → ReadTaken p got buffer part part' state state' r
+      go (pos k) h e q = let m : n - 0 ≡ min k (length buffer) = grind (arith, q) in some e (rw m at t)
+      go (negsuc k) h e q = absurd (grind (arith, h))

@@ -1,0 +1,10 @@
+-- `replay::fields::line_end` stays within the input; the measure is the bytes left. Assumes nothing.
+use Prim.Native.Nat.{◌-◌, ◌≤◌}
+use lib.ListN.{length}
+use Rattle.replay.proofs.fields.line_end.Given as goal
+
+abbrev pub invariant-loop-at : goal.invariant-loop-at
+invariant-loop-at l = (l.from ≤ l.at) × (l.at ≤ length l.input)
+
+abbrev pub decreases-loop-at : goal.decreases-loop-at
+decreases-loop-at l = length l.input - l.at
