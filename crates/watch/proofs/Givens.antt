@@ -10,8 +10,6 @@ use mir.ValLaws.{to_z-of_z}
 use mathlib.Core.Bool.{true, false}
 use lib.IntN.{ℤ, pos, negsuc, nat_abs}
 use lib.Signed.{lt_z}
-use borrow.Author.Tests.{ltb-true}
-use Rattle.rules.proofs.Impossible.{impossible}
 use lib.ListN.{length, take, drop, length-append, length-take, length-drop, drop_of_length-le}
 use lib.Seq.{take_at, take-add, take_all}
 use Rattle.watching.specs.declared.Run.{Run}

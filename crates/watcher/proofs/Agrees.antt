@@ -9,7 +9,6 @@ use Rattle.rules.specs.Limits.{argument_bytes, ticks}
 use Rattle.rules.specs.Pattern.{Pattern}
 use Rattle.rules.specs.Instances.{Has, Latest}
 use Rattle.rules.specs.History.{Tick, Rising, next_tick, record_of}
-use Rattle.detector.specs.Step.{next}
 use Rattle.detector.specs.Run.{run_from, run}
 use Rattle.detector.proofs.Run.{run_form, run_snoc}
 use Rattle.detector.proofs.History.{next_tick_snoc, rising_snoc}

@@ -3,7 +3,7 @@
 use Prim.Native.Nat.{◌-◌, ◌≤◌}
 use mathlib.Core.Path.{◌≡◌}
 use Rattle.rules.specs.Limits.{argument_bytes}
-use Rattle.body.specs.Entry.{entry_at, entries_by, entries}
+use Rattle.body.specs.Entry.{entry_at, entries_by}
 use Rattle.body.specs.Check.{scan, verdict, check_of}
 use Rattle.body.proofs.check_body.Given as goal
 

@@ -1,10 +1,7 @@
 -- `watcher::feed` meets its contract: the refusals in their order, then the steps one after the other. Assumes nothing.
 use Prim.Native.Nat.{ℕ}
-use mathlib.Core.Path.{◌≡◌, refl, sym, ap, ◌∙◌}
-use mathlib.Core.Bool.{true}
+use mathlib.Core.Path.{refl, sym, ap, ◌∙◌}
 use native.Mathlib.Omega.{arith}
-use Rattle.watcher.specs.State.{next_of}
-use Rattle.watcher.specs.inner.Walk.{formed}
 use Rattle.watcher.specs.Feed.{first_fault, uneven, short}
 use Rattle.watcher.specs.inner.Step.{FeedReady}
 use Rattle.watcher.proofs.Judges.{extent_formed, extent_broken}
