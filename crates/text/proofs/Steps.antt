@@ -1,4 +1,4 @@
--- How the machine of `specs/Machine.antt` moves along a text that is read by index. Assumes nothing.
+-- How the machine of `specs/inner/Machine.antt` moves along a text that is read by index. Assumes nothing.
 use Rattle.std.proofs.Common.{◌≡◌, ℕ, ◌+◌, ◌<◌, ◌≤◌, Bool, true, false, cond, eqb, List, [], ◌∷◌, length, get_or, drop, sym, refl, ap, ◌∙◌, subst, drop_of_length-le, eq-eqb, ne_eqb}
 use Rattle.rules.proofs.Lists.{drop_at}
 use Rattle.rules.specs.declared.Op.{Op}

@@ -41,7 +41,7 @@ appended p piece p' from n f m e q =
       holds = q ∙ ap (λ (l : List ℕ). l ++ drop (from + n) p) (sym cut);
     }
 
--- as the kit copies a part of the piece to the rest of the bytes
+-- as `copying::copy` copies a part of the piece to the rest of the bytes
 pub copy_appended : (p piece e : List ℕ) (from n : ℕ) → from ≤ most_held → most_held ≤ length p → n ≡ min (length piece) (most_held - from)
     → e ≡ take (length (take (n - 0) piece)) (take (n - 0) piece) ++ drop (length (take (n - 0) piece)) (mid_of from (length p - from) p)
     → Appended p from piece (put_mid from (length p - from) p e) (from + n)

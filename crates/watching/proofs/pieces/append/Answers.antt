@@ -1,4 +1,4 @@
--- `watching::pieces::append` meets its contract: the kit copies as much as is held. Assumes nothing.
+-- `watching::pieces::append` meets its contract: `copying::copy` copies as much as is held. Assumes nothing.
 use Rattle.watching.proofs.Appending.{copy_appended}
 use Rattle.watching.proofs.pieces.append.Goals as goal
 
