@@ -31,7 +31,7 @@ struct Wrote {
     fault: u64,
 }
 
-// Standard input, output and error; and why the last read or write that failed did.
+// Standard input, output and error, and the error of the last read or write that failed.
 #[derive(Drop)]
 struct Streams {
     rt: HostRuntime,
@@ -95,7 +95,7 @@ fn take_all(
     p
 }
 
-// Reads what there is of the input, at most as much as the buffer holds: the number of bytes, 0 at its end, -1 where the read failed.
+// Reads as much of the input as there is, up to the length of the buffer. Answers the number of bytes, 0 at the end of the input, or -1 if the read failed.
 fn read(streams: &mut Streams, buffer: &mut [u8]) -> isize {
     match streams.rt.stdin().read(buffer) {
         Ok(n) => n as isize,
@@ -237,7 +237,7 @@ fn write_first(streams: &mut Streams, p: Progress, out: &[u8], n: usize) -> Wrot
     outcome(write(streams, &out[0..n]), n)
 }
 
-// Writes all of the bytes, at once and through no buffer; and whether that was done.
+// Writes all of the bytes to standard output, which has no buffer, and says whether that worked.
 fn write(streams: &mut Streams, bytes: &[u8]) -> bool {
     match streams.rt.write_all(bytes) {
         Ok(()) => true,
@@ -274,7 +274,7 @@ fn report(streams: &Streams, fault: u64) {
     }
 }
 
-// Nothing can be said of a line on standard error that fails.
+// Writes the line on standard error. If that fails too, there is nowhere left to say so.
 fn fail(streams: &Streams, what: &str) {
     if let Some(why) = streams.why {
         let _ = eprintln!(streams.rt; "{what}: {why}");

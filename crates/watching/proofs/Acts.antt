@@ -1,4 +1,4 @@
--- What an answer acted on makes of the run and of the output. Assumes nothing.
+-- What acting on an answer does to the run, and what it writes. Assumes nothing.
 use Prim.Native.Nat.{ℕ, ◌<◌}
 use mathlib.Core.Path.{◌≡◌, refl}
 use mathlib.Core.Logic.{◌⊎◌, inl, inr}

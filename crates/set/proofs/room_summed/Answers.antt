@@ -5,7 +5,7 @@ use Rattle.set.proofs.room_summed.Goals as goal
 
 pub loop-i-init : goal.loop-i-init
 loop-i-init c =
-    let h = sound_holds c.args.file.now (λ j. (c.shared_slice_known-1.given j).fits) c.requires in
+    let h = sound_holds c.args.file.now (λ j. omega (arith, c.type_inv.file j)) c.requires in
     summing_start _ c.pattern_count-count.ensures.0 h.1
 
 pub room_at-words-requires : goal.room_at-words-requires

@@ -1,4 +1,4 @@
--- `text::read_pattern` meets its contract: what `expression` promises of the whole text, in each arm, says which answer is right. Assumes nothing.
+-- `text::read_pattern` meets its contract: in each arm, what `expression` promises of the whole text gives the answer. Assumes nothing.
 use Rattle.std.proofs.Common.{refl, arith}
 use Rattle.text.specs.Answer.RefusedText.{long, syntax, many, room}
 use Rattle.text.proofs.Readings.{stuck, over, many_entries, no_room, made_length, all_read}

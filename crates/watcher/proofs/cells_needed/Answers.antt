@@ -1,14 +1,16 @@
 use mathlib.Core.Path.{◌≡◌, refl, sym, ◌∙◌}
-use Prim.Native.Nat.{◌+◌, ◌-◌, ◌≤◌}
-use lib.ListN.{get_or, length-set}
+use Prim.Native.Nat.{ℕ, ◌+◌, ◌-◌, ◌/◌, ◌<◌, ◌≤◌}
+use mathlib.Core.List.{List}
+use lib.ListN.{length, get_or, length-set}
 use native.Mathlib.Omega.{arith}
 use Rattle.rules.specs.Limits.{argument_bytes}
+use Rattle.rules.specs.declared.Op.{Op}
 use Rattle.body.specs.declared.Entry.TheVariants.{Letter, Pair}
 use Rattle.body.specs.Entry.{entry_at}
-use Rattle.body.specs.inner.Stack.{stack_by}
+use Rattle.body.specs.inner.Stack.{stack, stack_by}
 use Rattle.watcher.proofs.Piles.{piled_wrong, possible_le}
 use Rattle.watcher.proofs.Arrays.{letter_fits, letter_stack, pair_two, pair_stack, pair_small, pair_set}
-use Rattle.watcher.proofs.Rooming.{rooming_start, rooming_end, rooming_letter, rooming_within, rooming_pair}
+use Rattle.watcher.proofs.Rooming.{Rooming, rooming_start, rooming_end, rooming_letter, rooming_within, rooming_pair}
 use Rattle.watcher.proofs.cells_needed.Goals as goal
 use Rattle.watcher.proofs.cells_needed.Goals.{In-Letter, In-Pair}
 
@@ -42,12 +44,15 @@ loop-i-preserved-in-Letter c =
           (rooming_letter x (omega arith) _ (letter_entry (goal.at.loop-i-preserved-in-Letter c).In-Letter)),
     )
 
--- an operator finds its operands on the stack, and their p are small
-two : (c : In-Pair) → 2 ≤ c.loop-i.d
-two c =
-    let l = c.loop-i in
-    pair_two l.possible l.d l.invariant.2 l.invariant.3.piled (omega arith) l.invariant.3.most _ (pair_entry c)
+-- an operator finds its operands on the stack
+operands : {body : List ℕ} {i words : ℕ} {op : Op} (possible : List ℕ) (d : ℕ) → length possible ≡ 32 → Rooming body i words (stack possible d)
+    → i < length body / 5 → entry_at argument_bytes body i ≡ Pair op → 2 ≤ d
+operands possible d long x h q = pair_two possible d long x.piled h x.most _ q
 
+two : (c : In-Pair) → 2 ≤ c.loop-i.d
+two c = operands c.loop-i.possible c.loop-i.d c.loop-i.invariant.2 c.loop-i.invariant.3 (omega arith) (pair_entry c)
+
+-- and their p are small
 small : (c : In-Pair)
     → let l = c.loop-i in
     get_or l.possible (l.d - 2) 0 + get_or l.possible (l.d - 1) 0 ≤ 62
@@ -56,24 +61,16 @@ small c =
     pair_small l.possible l.d l.invariant.2 l.invariant.3.piled (omega arith) l.invariant.3.most _ (pair_entry c)
 
 pub overflow_sub-y : goal.overflow_sub-y
-overflow_sub-y c =
-    let l = c.loop-i in
-    omega (arith, pair_two l.possible l.d l.invariant.2 l.invariant.3.piled (omega arith) l.invariant.3.most _ (sym c.entry_at-entry.ensures ∙ c.in-Pair.is))
+overflow_sub-y c = omega (arith, operands c.loop-i.possible c.loop-i.d c.loop-i.invariant.2 c.loop-i.invariant.3 (omega arith) (sym c.in-Pair.ensures))
 
 pub bounds-possible-d-in-Pair : goal.bounds-possible-d-in-Pair
-bounds-possible-d-in-Pair c =
-    let l = c.loop-i in
-    omega (arith, pair_two l.possible l.d l.invariant.2 l.invariant.3.piled (omega arith) l.invariant.3.most _ (sym c.entry_at-entry.ensures ∙ c.in-Pair.is))
+bounds-possible-d-in-Pair c = omega (arith, operands c.loop-i.possible c.loop-i.d c.loop-i.invariant.2 c.loop-i.invariant.3 (omega arith) (sym c.in-Pair.ensures))
 
 pub overflow_sub-x : goal.overflow_sub-x
-overflow_sub-x c =
-    let l = c.loop-i in
-    omega (arith, pair_two l.possible l.d l.invariant.2 l.invariant.3.piled (omega arith) l.invariant.3.most _ (sym c.entry_at-entry.ensures ∙ c.in-Pair.is))
+overflow_sub-x c = omega (arith, operands c.loop-i.possible c.loop-i.d c.loop-i.invariant.2 c.loop-i.invariant.3 (omega arith) (sym c.in-Pair.ensures))
 
 pub bounds-possible-d-in-Pair-2 : goal.bounds-possible-d-in-Pair-2
-bounds-possible-d-in-Pair-2 c =
-    let l = c.loop-i in
-    omega (arith, pair_two l.possible l.d l.invariant.2 l.invariant.3.piled (omega arith) l.invariant.3.most _ (sym c.entry_at-entry.ensures ∙ c.in-Pair.is))
+bounds-possible-d-in-Pair-2 c = omega (arith, operands c.loop-i.possible c.loop-i.d c.loop-i.invariant.2 c.loop-i.invariant.3 (omega arith) (sym c.in-Pair.ensures))
 
 pub overflow_cast-possible : goal.overflow_cast-possible
 overflow_cast-possible c =

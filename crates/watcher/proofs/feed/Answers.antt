@@ -9,7 +9,7 @@ use Rattle.watcher.proofs.Feeds.{fed_all, fed_broken, fed_faulty}
 use Rattle.watcher.proofs.feed.Goals as goal
 use Rattle.watcher.proofs.feed.Goals.{In-Fed}
 
--- past the tests
+-- past the tests, all ticks can be stepped
 ready : (c : In-Fed) → FeedReady c.args.state.now c.args.ticks.now c.args.events.now c.args.answers.now
 ready c = record {
   form = extent_formed _ (omega arith);

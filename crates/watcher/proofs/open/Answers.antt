@@ -20,7 +20,7 @@ sound : (c : In-Sound) → check_of argument_bytes c.args.body.now ≡ Sound
 sound c = sym c.check_body.ensures ∙ c.in-Sound.is
 
 bytes : (c : In-Sound) → Bytes c.args.body.now
-bytes c = λ k. omega (arith, c.shared_slice_known-1.given k)
+bytes c = λ k. omega (arith, c.type_inv.body k)
 
 -- the words needed are those of the formula
 needed : (c : After-cells_needed-cells)

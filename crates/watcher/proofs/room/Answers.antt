@@ -1,6 +1,7 @@
 -- `watcher::room` meets its contract: the walk over a sound body sums its room. Assumes nothing.
 use mathlib.Core.Path.{◌≡◌, sym, subst, ◌∙◌}
 use Prim.Native.Nat.{ℕ, ◌+◌, ◌/◌}
+use native.Mathlib.Omega.{arith}
 use lib.ListN.{length}
 use Rattle.rules.specs.Limits.{argument_bytes}
 use Rattle.body.specs.declared.BodyCheck.TheVariants.{Sound}
@@ -25,5 +26,4 @@ pub returns-in-Sound : goal.returns-in-Sound
 unfolding words_needed
 returns-in-Sound c =
     let b = c.args.body.now in
-    let k = c.shared_slice_known-1.given in
-    subst (λ (n : ℕ). RoomAnswers b (Words (2 + length b / 5 + n))) (sym c.cells_needed.ensures.0) (room_answers b (λ i. (k i).fits) (sound (goal.at.returns-in-Sound c).In-Sound))
+    subst (λ (n : ℕ). RoomAnswers b (Words (2 + length b / 5 + n))) (sym c.cells_needed.ensures.0) (room_answers b (λ i. omega (arith, c.type_inv.body i)) (sound (goal.at.returns-in-Sound c).In-Sound))

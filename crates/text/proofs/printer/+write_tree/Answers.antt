@@ -1,4 +1,4 @@
--- Each answer is by the last entry, which says what tree it ends and where the operands end.
+-- Each answer goes by the last entry, which says what tree ends there and where its operands end.
 use Rattle.std.proofs.Common.{arith}
 use Rattle.text.proofs.Trees.{some_entry, not_wrong, letter_ready, letter_written}
 use Rattle.text.proofs.Trees.{right_ready, left_falls, left_ready, pair_written, limited_ready, within_written}

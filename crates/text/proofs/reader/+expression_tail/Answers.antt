@@ -1,4 +1,4 @@
--- Each return is one of the ways of `Ways`, by what the tests and the calls on that way say. A call's clause at an arm is that of the arm's value.
+-- Each return is one of the cases of `Ways`; the tests and calls on the way to it say which.
 use Rattle.std.proofs.Common.{ℕ, arith}
 use Rattle.text.proofs.Ways.{Opened, no_text, is_letter, no_open, no_left, no_right, no_more, no_shut, is_bracket}
 use Rattle.text.proofs.Ways.{no_tail_text, no_sign, no_number, is_number, no_operand, is_operand}
