@@ -1,11 +1,11 @@
 -- A body is accepted exactly if it is the body of a pattern, of one pattern only; a refusal names the lowest entry that breaks a rule.
 -- Bytes and entries give each other back, and entries and trees too. Assumes nothing.
+use Rattle.std.specs.Prelude.{Err, None, Ok, Option, Some}
 use Prim.Native.Nat.{ℕ, zero, suc, ◌+◌, ◌*◌, ◌/◌, ◌≤◌, ◌^◌}
 use mathlib.Core.Path.{◌≡◌, refl, sym, ap, subst, ◌∙◌}
 use mathlib.Core.Bool.{Bool, true, false}
 use mathlib.Core.Logic.{◌⊎◌, inl, inr}
 use mathlib.Core.List.{List, [], ◌∷◌, append-nil}
-use mathlib.Core.Option.{Option, none, some}
 use native.Mathlib.Omega.{arith}
 use lib.ListN.{length}
 use Rattle.rules.proofs.Decisions.{true_or_false}
@@ -13,7 +13,6 @@ use Rattle.rules.specs.Pattern.{Pattern, event, pair, within, size, Proper}
 use Rattle.refusal.specs.declared.Refusal.TheVariants.{Size}
 use Rattle.refusal.specs.Table.{broken_at}
 use Rattle.body.specs.declared.Entry.{Entry}
-use Rattle.body.specs.declared.BodyCheck.TheVariants.{Sound, Refused}
 use Rattle.body.specs.Bytes.{Bytes}
 use Rattle.body.specs.Entry.{entries_bytes, entries_by, entry_at, entries}
 use Rattle.body.specs.Postfix.{postfix, encode, Bodied}
@@ -38,11 +37,11 @@ entries_encode width w e h =
     rw (whole_count width (length b) (length (postfix e)) (length_entries width (postfix e)))
     (entries_read_back width w (postfix e) (proper_fits (256 ^ width) e h))
 
-pub scan_whole : (e : Pattern) → scan (postfix e) 0 0 ≡ none
+pub scan_whole : (e : Pattern) → scan (postfix e) 0 0 ≡ None
 unfolding scan
 scan_whole e = rw (append-nil (postfix e)) at (scan_postfix e [] 0 0)
 
-pub encode_sound : (width : ℕ) → 1 ≤ width → (e : Pattern) → Bodied width e → check_of width (encode width e) ≡ Sound
+pub encode_sound : (width : ℕ) → 1 ≤ width → (e : Pattern) → Bodied width e → check_of width (encode width e) ≡ Ok tt
 encode_sound width w e h =
     check_by width (encode width e)
     (whole_sized width (length (encode width e)) (size e) (length_encode width e) (size_pos e) h.few)
@@ -71,7 +70,7 @@ pub record TreeOf (width : ℕ) (b : List ℕ) (e : Pattern) : Type 0 where
   pub read : entries width b ≡ postfix e
 
 -- from a sound body to its pattern: by entries, and by bytes
-pub sound_tree : (width : ℕ) (b : List ℕ) → check_of width b ≡ Sound → (e : Pattern) × TreeOf width b e
+pub sound_tree : (width : ℕ) (b : List ℕ) → check_of width b ≡ Ok tt → (e : Pattern) × TreeOf width b e
 unfolding entries
 sound_tree width b p =
     let parts = sound_parts width b p in
@@ -84,7 +83,7 @@ sound_tree width b p =
     let count : size e ≡ n = sym (length_postfix e) ∙ ap length (sym found.1) ∙ length_read width b in
     (e, record { bodied = record { proper = proper; few = omega (arith, whole.most) }; read = found.1 })
 
-pub sound_pattern : (width : ℕ) (b : List ℕ) → Bytes b → check_of width b ≡ Sound → (e : Pattern) × BodyOf width b e
+pub sound_pattern : (width : ℕ) (b : List ℕ) → Bytes b → check_of width b ≡ Ok tt → (e : Pattern) × BodyOf width b e
 unfolding entries encode
 sound_pattern width b w p =
     let whole = sized_whole width (length b) (sound_parts width b p).0 in
@@ -136,7 +135,7 @@ one_pattern width w b e e' h h' =
 pub refused_lowest : (width : ℕ) → RefusedLowest width
 refused_lowest width b i p =
     let parts = body_parts width b i p in
-    scanned width b (some i) parts.0 parts.1
+    scanned width b (Some i) parts.0 parts.1
 
 counted_sized : (width n : ℕ) → Counted width n → sized width n ≡ true
 counted_sized width n c = whole_sized width n c.count c.full c.least c.most
@@ -164,10 +163,10 @@ pub answered : (width : ℕ) → Answered width
 answered width b = go (sized width (length b)) (scan (entries width b) 0 0) refl refl
   where
     go : (t : Bool) (o : Option ℕ) → sized width (length b) ≡ t → scan (entries width b) 0 0 ≡ o
-        → (check_of width b ≡ Sound)
-        ⊎ (check_of width b ≡ Refused Size)
-        ⊎ ((i : ℕ) × (i ≤ length (entries width b)) × (check_of width b ≡ Refused (broken_at 0 i)))
-    go true none p q = inl (check_by width b p ∙ ap (verdict 0) q)
-    go true (some i) p q =
-        inr (inr (i, lowest_le (entries width b) i (scanned width b (some i) p q), check_by width b p ∙ ap (verdict 0) q))
+        → (check_of width b ≡ Ok tt)
+        ⊎ (check_of width b ≡ Err Size)
+        ⊎ ((i : ℕ) × (i ≤ length (entries width b)) × (check_of width b ≡ Err (broken_at 0 i)))
+    go true None p q = inl (check_by width b p ∙ ap (verdict 0) q)
+    go true (Some i) p q =
+        inr (inr (i, lowest_le (entries width b) i (scanned width b (Some i) p q), check_by width b p ∙ ap (verdict 0) q))
     go false o p q = inr (inl (check_size width b p))

@@ -1,9 +1,9 @@
 -- The length of a body: what the test of its length says, and what the check's answer says of it. Assumes nothing.
+use Rattle.std.specs.Prelude.{Err, None, Ok, Option, Some}
 use Prim.Native.Nat.{ℕ, ◌+◌, ◌*◌, ◌/◌, ◌%◌, ◌≤◌}
 use mathlib.Core.Path.{◌≡◌, refl, ap}
 use mathlib.Core.Bool.{Bool, true, false, cond}
 use mathlib.Core.List.{List}
-use mathlib.Core.Option.{Option, none, some}
 use native.Mathlib.Nat.{div-add-mod, le-div_iff_mul-le, div-le_of_le-mul, mul-mod_right, mul-div_right, le-mul_of_pos_right, mul-le-mul_left}
 use native.Mathlib.Omega.{arith}
 use lib.Dec.{eqb, leb}
@@ -13,7 +13,6 @@ use Rattle.rules.proofs.Impossible.{impossible}
 use Rattle.rules.specs.Limits.{most_entries}
 use Rattle.refusal.specs.declared.Refusal.TheVariants.{Size}
 use Rattle.refusal.specs.Table.{entry_named, broken_at}
-use Rattle.body.specs.declared.BodyCheck.TheVariants.{Sound, Refused}
 use Rattle.body.specs.Entry.{entries}
 use Rattle.body.specs.Check.{scan, sized, verdict, check_of}
 
@@ -52,31 +51,31 @@ module _ (width n k : ℕ) (e : n ≡ (width + 1) * k) where
       rw (eq-eqb (n % (width + 1)) 0 p, le-leb (width + 1) n q, le-leb n (most_entries * (width + 1)) r)
 
 -- the check's answer, by the test of the length and the scan of the entries
-sound_cond : (t : Bool) (o : Option ℕ) → cond t (verdict 0 o) (Refused Size) ≡ Sound → (t ≡ true) × (o ≡ none)
-sound_cond true none p = (refl, refl)
-sound_cond true (some i) p = impossible cc
+sound_cond : (t : Bool) (o : Option ℕ) → cond t (verdict 0 o) (Err Size) ≡ Ok tt → (t ≡ true) × (o ≡ None)
+sound_cond true None p = (refl, refl)
+sound_cond true (Some i) p = impossible cc
 sound_cond false o p = impossible cc
 
-body_cond : (t : Bool) (o : Option ℕ) (i : ℕ) → cond t (verdict 0 o) (Refused Size) ≡ Refused (broken_at 0 i) → (t ≡ true) × (o ≡ some i)
-body_cond true none i p = impossible cc
-body_cond true (some j) i p = let q : broken_at 0 j ≡ broken_at 0 i = cc in (refl, ap some (ap entry_named q))
+body_cond : (t : Bool) (o : Option ℕ) (i : ℕ) → cond t (verdict 0 o) (Err Size) ≡ Err (broken_at 0 i) → (t ≡ true) × (o ≡ Some i)
+body_cond true None i p = impossible cc
+body_cond true (Some j) i p = let q : broken_at 0 j ≡ broken_at 0 i = cc in (refl, ap Some (ap entry_named q))
 body_cond false o i p = impossible cc
 
-size_cond : (t : Bool) (o : Option ℕ) → cond t (verdict 0 o) (Refused Size) ≡ Refused Size → t ≡ false
-size_cond true none p = impossible cc
-size_cond true (some i) p = impossible cc
+size_cond : (t : Bool) (o : Option ℕ) → cond t (verdict 0 o) (Err Size) ≡ Err Size → t ≡ false
+size_cond true None p = impossible cc
+size_cond true (Some i) p = impossible cc
 size_cond false o p = refl
 
 module _ (width : ℕ) (b : List ℕ) where
-  pub sound_parts : check_of width b ≡ Sound → (sized width (length b) ≡ true) × (scan (entries width b) 0 0 ≡ none)
+  pub sound_parts : check_of width b ≡ Ok tt → (sized width (length b) ≡ true) × (scan (entries width b) 0 0 ≡ None)
   unfolding check_of
   sound_parts p = sound_cond (sized width (length b)) (scan (entries width b) 0 0) p
 
-  pub body_parts : (i : ℕ) → check_of width b ≡ Refused (broken_at 0 i) → (sized width (length b) ≡ true) × (scan (entries width b) 0 0 ≡ some i)
+  pub body_parts : (i : ℕ) → check_of width b ≡ Err (broken_at 0 i) → (sized width (length b) ≡ true) × (scan (entries width b) 0 0 ≡ Some i)
   unfolding check_of
   body_parts i p = body_cond (sized width (length b)) (scan (entries width b) 0 0) i p
 
-  pub size_part : check_of width b ≡ Refused Size → sized width (length b) ≡ false
+  pub size_part : check_of width b ≡ Err Size → sized width (length b) ≡ false
   unfolding check_of
   size_part p = size_cond (sized width (length b)) (scan (entries width b) 0 0) p
 
@@ -84,6 +83,6 @@ module _ (width : ℕ) (b : List ℕ) where
   unfolding check_of
   check_by p = rw p
 
-  pub check_size : sized width (length b) ≡ false → check_of width b ≡ Refused Size
+  pub check_size : sized width (length b) ≡ false → check_of width b ≡ Err Size
   unfolding check_of
   check_size p = rw p

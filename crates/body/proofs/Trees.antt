@@ -1,10 +1,10 @@
 -- Entries and trees: the entries of a tree pass the check, and any entries either are those of one tree or have a lowest one that
 -- breaks a rule. By induction on the entries, with the trees found so far. Assumes nothing.
+use Rattle.std.specs.Prelude.{None, Option, Some}
 use Prim.Native.Nat.{ℕ, suc, ◌+◌, ◌-◌, ◌≤◌}
 use mathlib.Core.Path.{◌≡◌, refl, sym, ap, subst, ◌∙◌}
 use mathlib.Core.Logic.{inl, inr, ⊎_elim}
 use mathlib.Core.List.{List, [], ◌∷◌, ◌++◌, append_assoc, append-nil}
-use mathlib.Core.Option.{Option, none, some}
 use native.Mathlib.Omega.{arith}
 use lib.ListN.{length, get_or, drop, length-append, take-append-drop, drop_of_length-le}
 use lib.Seq.{take_at, get_or_at, drop-cons, length-take-le}
@@ -97,8 +97,8 @@ scan_postfix (within x n) rest i d =
 
 -- what the check's answer says of the entries
 abbrev pub Outcome : List Entry → Option ℕ → Type 0
-Outcome es none = (e : Pattern) × (es ≡ postfix e)
-Outcome es (some i) = Lowest es i
+Outcome es None = (e : Pattern) × (es ≡ postfix e)
+Outcome es (Some i) = Lowest es i
 
 -- the entry at i breaks a rule
 lowest_broken : (s : Entry) (ss : List Entry) (st : List Pattern) (i : ℕ) → i ≡ length (forest st) → Breaks s (length st)
@@ -156,7 +156,7 @@ scan_outcome (Within n ∷ ss) (x ∷ st) i p h =
 scan_outcome (Wrong ∷ ss) st i p h = lowest_broken Wrong ss st i p tt
 
 -- entries that pass are those of a tree
-pub scan_tree : (es : List Entry) → scan es 0 0 ≡ none → (e : Pattern) × (es ≡ postfix e)
+pub scan_tree : (es : List Entry) → scan es 0 0 ≡ None → (e : Pattern) × (es ≡ postfix e)
 unfolding scan forest
 scan_tree [] p = impossible cc
 scan_tree (s ∷ ss) p = subst (Outcome (s ∷ ss)) p (scan_outcome (s ∷ ss) [] 0 refl (omega arith))
@@ -175,24 +175,24 @@ scan_forest (e ∷ st) rest =
     ∙ ap (scan rest (length (forest st) + size e)) (omega arith))
 
 -- and the entry after them is refused if it breaks a rule
-scan_breaks : (s : Entry) (ss : List Entry) (i d : ℕ) → Breaks s d → scan (s ∷ ss) i d ≡ some i
+scan_breaks : (s : Entry) (ss : List Entry) (i d : ℕ) → Breaks s d → scan (s ∷ ss) i d ≡ Some i
 unfolding scan depth_of
 scan_breaks (Letter n) ss i d h = absurd h
 scan_breaks (Pair op) ss i d h = rw (lt-leb 2 d h)
 scan_breaks (Within n) ss i d h = rw (lt-leb 1 d h)
 scan_breaks Wrong ss i d h = refl
 
-scan_several : (i d : ℕ) → 2 ≤ d → scan [] i d ≡ some i
+scan_several : (i d : ℕ) → 2 ≤ d → scan [] i d ≡ Some i
 unfolding scan
 scan_several i d h = rw (ne_eqb d 1 (omega arith))
 
 -- the check finds the lowest entry that breaks a rule, which there is at most one of
-pub lowest_scan : (es : List Entry) (i : ℕ) → Lowest es i → scan es 0 0 ≡ some i
+pub lowest_scan : (es : List Entry) (i : ℕ) → Lowest es i → scan es 0 0 ≡ Some i
 lowest_scan es i l =
     let d : ℕ = length l.trees in
     let place : length (forest l.trees) ≡ i = ap length (sym l.whole) ∙ length-take-le i es (lowest_le es i l) in
     let split : es ≡ forest l.trees ++ drop i es = sym (take-append-drop i es) ∙ ap (λ (p : List Entry). p ++ drop i es) l.whole in
-    let rest : scan (drop i es) i d ≡ some i =
+    let rest : scan (drop i es) i d ≡ Some i =
     ⊎_elim
     (λ h. rw (drop-cons es i Wrong h.0) (scan_breaks (get_or es i Wrong) (drop (suc i) es) i d h.1))
     (λ h. rw (drop_of_length-le es {i = i} (omega (arith, h.0))) (scan_several i d h.1))

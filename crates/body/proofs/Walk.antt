@@ -1,9 +1,9 @@
 -- A walk over the entries of a sound body, from any source, a turn at a time. Assumes nothing.
+use Rattle.std.specs.Prelude.{None, Ok, Option, Some}
 use Prim.Native.Nat.{ℕ, ◌+◌, ◌-◌, ◌*◌, ◌/◌, ◌≤◌, ◌<◌}
 use mathlib.Core.Path.{◌≡◌, refl, sym, ◌∙◌}
 use mathlib.Core.Bool.{Bool, true, false, cond}
 use mathlib.Core.List.{List}
-use mathlib.Core.Option.{Option, none, some}
 use native.Mathlib.Nat.{sub-zero}
 use lib.Dec.{leb}
 use lib.ListN.{length}
@@ -13,8 +13,6 @@ use Rattle.rules.specs.declared.Op.{Op}
 use Rattle.rules.specs.Limits.{most_entries}
 use Rattle.body.specs.declared.Entry.{Entry}
 use Rattle.body.specs.declared.Entry.TheVariants.{Letter, Pair, Within, Wrong}
-use Rattle.body.specs.declared.Depth.TheVariants.{Lacks, To}
-use Rattle.body.specs.declared.BodyCheck.TheVariants.{Sound}
 use Rattle.body.specs.Entry.{entry_at, entries_by, entries}
 use Rattle.body.specs.Check.{on_depth, depth_of, scan, check_of}
 use Rattle.body.specs.inner.Machine.{Machine, step, run}
@@ -33,14 +31,14 @@ run_end M f n i st g h = rw (left_zero n i h)
 
 -- the entries from i on break no rule, with d trees there
 abbrev pub Rest : (ℕ → Entry) → ℕ → ℕ → ℕ → Type 0
-Rest f n i d = scan (entries_by f i (n - i)) i d ≡ none
+Rest f n i d = scan (entries_by f i (n - i)) i d ≡ None
 
-pub cond_rest : (t : Bool) (e i : ℕ) (f : ℕ → Option ℕ) → on_depth (cond t (To e) Lacks) (some i) f ≡ none → (t ≡ true) × (f e ≡ none)
+pub cond_rest : (t : Bool) (e i : ℕ) (f : ℕ → Option ℕ) → on_depth (cond t (Some e) None) (Some i) f ≡ None → (t ≡ true) × (f e ≡ None)
 cond_rest true e i f p = (refl, p)
 cond_rest false e i f p = impossible cc
 
 module _ (f : ℕ → Entry) (n i d : ℕ) (h : i < n) (r : Rest f n i d) where
-  turned : (s : Entry) → f i ≡ s → on_depth (depth_of s d) (some i) (λ e. scan (entries_by f (i + 1) (n - (i + 1))) (i + 1) e) ≡ none
+  turned : (s : Entry) → f i ≡ s → on_depth (depth_of s d) (Some i) (λ e. scan (entries_by f (i + 1) (n - (i + 1))) (i + 1) e) ≡ None
   turned s e = rw e at (sym (scan_turn f n i d h) ∙ r)
 
   pub rest_letter : (a : ℕ) → f i ≡ Letter a → Rest f n (i + 1) (d + 1)
@@ -70,7 +68,7 @@ pub record Start (width : ℕ) (b : List ℕ) : Type 0 where
   pub most : length b / (width + 1) ≤ most_entries
   pub rest : Rest (entry_at width b) (length b / (width + 1)) 0 0
 
-pub sound_start : (width : ℕ) (b : List ℕ) → check_of width b ≡ Sound → Start width b
+pub sound_start : (width : ℕ) (b : List ℕ) → check_of width b ≡ Ok tt → Start width b
 unfolding entries
 sound_start width b p =
     let q = sound_parts width b p in

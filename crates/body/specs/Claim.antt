@@ -1,12 +1,11 @@
 -- What is claimed of the check of a body, over the width of an argument. Assumes nothing: these are definitions.
-use Rattle.std.specs.Prelude.{ℕ, ◌+◌, ◌*◌, ◌<◌, ◌≤◌, ◌≡◌, ◌⊎◌, ◌↔◌, List, [], ◌∷◌, ◌++◌, length, take, get_or}
+use Rattle.std.specs.Prelude.{ℕ, ◌+◌, ◌*◌, ◌<◌, ◌≤◌, ◌≡◌, ◌⊎◌, ◌↔◌, List, [], ◌∷◌, ◌++◌, length, take, get_or, Err, Ok}
 use Rattle.rules.specs.Limits.{most_entries}
 use Rattle.rules.specs.Pattern.{Pattern}
 use Rattle.refusal.specs.declared.Refusal.TheVariants.{Size}
 use Rattle.refusal.specs.Table.{broken_at}
 use Rattle.body.specs.declared.Entry.{Entry}
 use Rattle.body.specs.declared.Entry.TheVariants.{Letter, Pair, Within, Wrong}
-use Rattle.body.specs.declared.BodyCheck.TheVariants.{Sound, Refused}
 use Rattle.body.specs.Bytes.{Bytes}
 use Rattle.body.specs.Entry.{entries}
 use Rattle.body.specs.Postfix.{postfix, encode, Bodied}
@@ -19,7 +18,7 @@ pub record BodyOf (width : ℕ) (b : List ℕ) (e : Pattern) : Type 0 where
 
 -- a body is accepted exactly if it is the body of a pattern
 abbrev pub AcceptedExactly : ℕ → Type 0
-AcceptedExactly width = (b : List ℕ) → Bytes b → check_of width b ≡ Sound ↔ ((e : Pattern) × BodyOf width b e)
+AcceptedExactly width = (b : List ℕ) → Bytes b → check_of width b ≡ Ok tt ↔ ((e : Pattern) × BodyOf width b e)
 
 -- and that pattern is unique
 abbrev pub OnePattern : ℕ → Type 0
@@ -52,20 +51,20 @@ pub record Counted (width n : ℕ) : Type 0 where
 
 -- a refusal names the lowest entry that breaks a rule
 abbrev pub RefusedLowest : ℕ → Type 0
-RefusedLowest width = (b : List ℕ) (i : ℕ) → check_of width b ≡ Refused (broken_at 0 i) → Lowest (entries width b) i
+RefusedLowest width = (b : List ℕ) (i : ℕ) → check_of width b ≡ Err (broken_at 0 i) → Lowest (entries width b) i
 
 -- and where the length is that of 1 to 63 entries, the lowest entry that breaks a rule is refused
 abbrev pub LowestRefused : ℕ → Type 0
-LowestRefused width = (b : List ℕ) (i : ℕ) → Counted width (length b) → Lowest (entries width b) i → check_of width b ≡ Refused (broken_at 0 i)
+LowestRefused width = (b : List ℕ) (i : ℕ) → Counted width (length b) → Lowest (entries width b) i → check_of width b ≡ Err (broken_at 0 i)
 
 -- Size is given exactly if the length is not that of 1 to 63 entries
 abbrev pub RefusedSize : ℕ → Type 0
-RefusedSize width = (b : List ℕ) → check_of width b ≡ Refused Size ↔ (Counted width (length b) → ⊥)
+RefusedSize width = (b : List ℕ) → check_of width b ≡ Err Size ↔ (Counted width (length b) → ⊥)
 
 -- a body is sound, or it is refused for its size, or with an entry's index up to the number of its entries
 abbrev pub Answered : ℕ → Type 0
 Answered width =
     (b : List ℕ)
-    → (check_of width b ≡ Sound)
-    ⊎ (check_of width b ≡ Refused Size)
-    ⊎ ((i : ℕ) × (i ≤ length (entries width b)) × (check_of width b ≡ Refused (broken_at 0 i)))
+    → (check_of width b ≡ Ok tt)
+    ⊎ (check_of width b ≡ Err Size)
+    ⊎ ((i : ℕ) × (i ≤ length (entries width b)) × (check_of width b ≡ Err (broken_at 0 i)))

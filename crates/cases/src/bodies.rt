@@ -1,6 +1,5 @@
 // Bodies that keep the rules, and bodies that break each of them.
 use crate::show;
-use body::BodyCheck;
 use std::io;
 
 pub(crate) fn run(rt: HostRuntime) -> io::Result<()> {
@@ -43,8 +42,5 @@ fn longest(rt: HostRuntime) -> io::Result<()> {
 }
 
 fn check(rt: HostRuntime, name: &[u8], body: &[u8]) -> io::Result<()> {
-    match body::check_body(body) {
-        BodyCheck::Sound => show::line(rt, name, 0, 0, 0),
-        BodyCheck::Refused(r) => show::refused(rt, name, r),
-    }
+    show::done(rt, name, body::check_body(body))
 }

@@ -2,7 +2,7 @@
 ghost use Rattle.std.specs.Prelude.{◌≤◌};
 
 use crate::show;
-use file::{FileCheck, Finding, Whose, Writing};
+use file::{LookupError, Whose};
 use refusal::Refusal;
 use std::io;
 
@@ -24,23 +24,17 @@ fn smallest(rt: HostRuntime) -> io::Result<()> {
 }
 
 fn write(rt: HostRuntime, out: &mut [u8]) -> io::Result<()> {
-    match file::write_file(b"W       ", &[1], &[0, 0, 0, 0, 0], out) {
-        Writing::Written(n) => show::line(rt, b"file written", 0, n as u64, 0),
-        Writing::Refused(r) => show::refused(rt, b"file written", r),
-    }
+    let answer = file::write_file(b"W       ", &[1], &[0, 0, 0, 0, 0], out);
+    show::answer(rt, b"file written", answer)
 }
 
 // A name and then the bytes of a slice, on a line of their own.
 fn bytes(rt: HostRuntime, name: &[u8], s: &[u8]) -> io::Result<()> {
     rt.write_all(name)?;
     for b in s {
-        show::number(rt, wide(*b))?;
+        show::number(rt, u64::from(*b))?;
     }
     rt.write_all(b"\n")
-}
-
-fn wide(b: u8) -> u64 {
-    b as u64
 }
 
 // Site first; a name that is in neither, or malformed, is Absent; a broken file is refused, site examined first.
@@ -125,15 +119,15 @@ fn looked(
     wanted: &[u8],
 ) -> io::Result<()> {
     match file::looked_up(site, fleet, wanted) {
-        Finding::Found(whose, from, long) => show::line(
+        Ok(found) => show::line(
             rt,
             name,
             0,
-            owner(whose) + from as u64 % 1000,
-            long as u64,
+            owner(found.whose) + found.place.from as u64 % 1000,
+            found.place.long as u64,
         ),
-        Finding::Broken(whose, r) => broken(rt, name, whose, r),
-        Finding::Refused(r) => show::refused(rt, name, r),
+        Err(LookupError::Broken(whose, r)) => broken(rt, name, whose, r),
+        Err(LookupError::Absent) => show::refused(rt, name, Refusal::Absent),
     }
 }
 
@@ -147,13 +141,7 @@ fn owner(whose: Whose) -> u64
 }
 
 fn broken(rt: HostRuntime, name: &[u8], whose: Whose, r: Refusal) -> io::Result<()> {
-    show::line(
-        rt,
-        name,
-        refusal::number(r),
-        owner(whose),
-        refusal::entry(r),
-    )
+    show::line(rt, name, r.number(), owner(whose), r.entry())
 }
 
 fn cuts(rt: HostRuntime) -> io::Result<()> {
@@ -164,18 +152,10 @@ fn cuts(rt: HostRuntime) -> io::Result<()> {
 }
 
 fn cut(rt: HostRuntime, n: usize) -> io::Result<()> {
-    let whole = two();
-    show_cut(rt, &whole, n)
-}
-
-fn show_cut(rt: HostRuntime, whole: &[u8], n: usize) -> io::Result<()> {
-    if n <= whole.len() {
-        match file::check_file(&whole[0..n]) {
-            FileCheck::Sound => show::line(rt, b"file cut:", 0, 0, 0)?,
-            FileCheck::Refused(r) => show::refused(rt, b"file cut:", r)?,
-        }
+    match two().get(0..n) {
+        Some(part) => show::done(rt, b"file cut:", file::check_file(part)),
+        None => Ok(()),
     }
-    Ok(())
 }
 
 fn changes(rt: HostRuntime) -> io::Result<()> {
@@ -196,21 +176,10 @@ fn change_each(rt: HostRuntime, at: usize) -> io::Result<()> {
 
 fn change(rt: HostRuntime, at: usize, value: u8) -> io::Result<()> {
     let mut changed = two();
-    store(&mut changed, at, value);
+    show::store(&mut changed, at, value);
     match file::check_file(&changed) {
-        FileCheck::Sound => dotted(rt, 0, 0, 0),
-        FileCheck::Refused(r) => dotted(
-            rt,
-            refusal::number(r),
-            refusal::place(r),
-            refusal::entry(r),
-        ),
-    }
-}
-
-fn store(s: &mut [u8], at: usize, value: u8) {
-    if at < s.len() {
-        s[at] = value;
+        Ok(()) => dotted(rt, 0, 0, 0),
+        Err(r) => dotted(rt, r.number(), r.place(), r.entry()),
     }
 }
 

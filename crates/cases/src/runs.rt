@@ -1,7 +1,7 @@
 // The watch program's lines at the edges: what is written for each.
 use crate::show;
 use std::io;
-use watching::{Chunked, Chunking, Finishing, Run};
+use watching::{Chunked, Run};
 
 pub(crate) fn run(rt: HostRuntime) -> io::Result<()> {
     one(rt, b"watch, empty line 1: ", b"")?;
@@ -97,12 +97,12 @@ fn chunked(
 ) -> io::Result<Chunked> {
     let mut out = [0u8; 60];
     match watching::take_chunk(run, held, chunk, part, state, &mut out) {
-        Chunking::Taken(c) => {
+        Ok(c) => {
             show::first(rt, &out, c.written)?;
             Ok(c)
         }
-        Chunking::Refused(_) => Ok(Chunked {
-            run: run,
+        Err(_) => Ok(Chunked {
+            run,
             held: 0,
             used: 0,
             written: 0,
@@ -114,7 +114,7 @@ fn chunked(
 fn finished(rt: HostRuntime, run: Run, state: &mut [u64]) -> io::Result<()> {
     let mut out = [0u8; 120];
     match watching::finish(run, 0, b"", state, &mut out) {
-        Finishing::Finished(n) => show::first(rt, &out, n),
-        Finishing::Refused(_) => Ok(()),
+        Ok(n) => show::first(rt, &out, n),
+        Err(_) => Ok(()),
     }
 }

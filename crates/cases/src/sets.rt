@@ -1,9 +1,6 @@
 // Sets at the edges: 16 patterns, each `(A;B)`, in one slice of 112 words.
 use crate::show;
-use file::Writing;
-use set::SetTicking;
 use std::io;
-use watcher::{Needed, Opening};
 
 pub(crate) fn run(rt: HostRuntime) -> io::Result<()> {
     let mut file = [0u8; 433];
@@ -20,10 +17,11 @@ fn make(rt: HostRuntime, file: &mut [u8]) -> io::Result<()> {
     let counts = [3u8; 16];
     let mut bodies = [0u8; 240];
     fill(&mut bodies);
-    match file::write_file(names, &counts, &bodies, file) {
-        Writing::Written(n) => show::line(rt, b"set: file", 0, n as u64, 0),
-        Writing::Refused(r) => show::refused(rt, b"set: file", r),
-    }
+    show::answer(
+        rt,
+        b"set: file",
+        file::write_file(names, &counts, &bodies, file),
+    )
 }
 
 // Fills a slice with the bodies of `(A;B)`, end to end.
@@ -99,10 +97,10 @@ fn tick_first(
     words: usize,
     answers: &mut [u64],
 ) -> io::Result<()> {
-    if words <= states.len() {
-        tick(rt, name, &mut states[0..words], 16, 5, 1, answers)?;
+    match states.get_mut(0..words) {
+        Some(part) => tick(rt, name, part, 16, 5, 1, answers),
+        None => Ok(()),
     }
-    Ok(())
 }
 
 // A state broken, or ahead of the others, at index 0, 7 and 15.
@@ -117,30 +115,18 @@ fn faults(rt: HostRuntime, file: &[u8]) -> io::Result<()> {
 
 fn fault(rt: HostRuntime, name: &[u8], file: &[u8], at: usize, word: u64) -> io::Result<()> {
     let mut states = [0u64; 112];
-    set::open(file, &mut states);
-    store(&mut states, at, word);
+    let _ = set::open(file, &mut states);
+    show::store(&mut states, at, word);
     let mut answers = [9u64; 16];
     tick(rt, name, &mut states, 16, 5, 1, &mut answers)
 }
 
-fn store(states: &mut [u64], at: usize, word: u64) {
-    if at < states.len() {
-        states[at] = word;
-    }
-}
-
 fn show_room(rt: HostRuntime, file: &[u8]) -> io::Result<()> {
-    match set::room(file) {
-        Needed::Words(n) => show::line(rt, b"set: room", 0, n as u64, 0),
-        Needed::Refused(r) => show::refused(rt, b"set: room", r),
-    }
+    show::answer(rt, b"set: room", set::room(file))
 }
 
 fn open(rt: HostRuntime, name: &[u8], file: &[u8], states: &mut [u64]) -> io::Result<()> {
-    match set::open(file, states) {
-        Opening::Opened => show::line(rt, name, 0, 0, 0),
-        Opening::Refused(r) => show::refused(rt, name, r),
-    }
+    show::done(rt, name, set::open(file, states))
 }
 
 // Prints the first and the last answer of an accepted tick.
@@ -154,11 +140,11 @@ fn tick(
     answers: &mut [u64],
 ) -> io::Result<()> {
     match set::tick(states, count, t, events, answers) {
-        SetTicking::Ticked => show::line(rt, name, 0, word(answers, 0), word(answers, 15)),
-        SetTicking::Refused(r) => show::refused(rt, name, r),
+        Ok(()) => show::line(rt, name, 0, word(answers, 0), word(answers, 15)),
+        Err(r) => show::refused(rt, name, r),
     }
 }
 
 fn word(answers: &[u64], at: usize) -> u64 {
-    if at < answers.len() { answers[at] } else { 0 }
+    answers.get(at).copied().unwrap_or(0)
 }

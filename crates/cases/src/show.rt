@@ -19,21 +19,39 @@ pub(crate) fn line(
 
 // A refusal by its number, place and entry.
 pub(crate) fn refused(rt: HostRuntime, name: &[u8], r: Refusal) -> io::Result<()> {
-    line(
-        rt,
-        name,
-        refusal::number(r),
-        refusal::place(r),
-        refusal::entry(r),
-    )
+    line(rt, name, r.number(), r.place(), r.entry())
+}
+
+// The number that a call gives as the second, or its refusal.
+pub(crate) fn answer(
+    rt: HostRuntime,
+    name: &[u8],
+    answer: Result<usize, Refusal>,
+) -> io::Result<()> {
+    match answer {
+        Ok(n) => line(rt, name, 0, n as u64, 0),
+        Err(r) => refused(rt, name, r),
+    }
+}
+
+// That a call was accepted, or its refusal.
+pub(crate) fn done(rt: HostRuntime, name: &[u8], done: Result<(), Refusal>) -> io::Result<()> {
+    answer(rt, name, done.map(|()| 0))
+}
+
+// Stores a value at a place, if there is such a place.
+pub(crate) fn store<T: Copy>(values: &mut [T], at: usize, value: T) {
+    if let Some(place) = values.get_mut(at) {
+        *place = value;
+    }
 }
 
 // The first bytes of a slice, if it has so many.
 pub(crate) fn first(rt: HostRuntime, bytes: &[u8], n: usize) -> io::Result<()> {
-    if n <= bytes.len() {
-        rt.write_all(&bytes[0..n])?;
+    match bytes.get(0..n) {
+        Some(part) => rt.write_all(part),
+        None => Ok(()),
     }
-    Ok(())
 }
 
 // A number, after a space.

@@ -1,10 +1,11 @@
 // The tally over a record that is lent to it: a window that is added, and refused windows, which leave the record.
 ghost use Rattle.std.specs.Prelude.{◌≡◌};
-ghost use Rattle.tally.specs.Tallied.{added_to, status_of, after};
+ghost use Rattle.tally.specs.Tallied.{added_to, answer_of, after};
 
 use crate::show;
+use refusal::Refusal;
 use std::io;
-use tally::{Kept, Tally};
+use tally::Tally;
 
 pub(crate) fn run(rt: HostRuntime) -> io::Result<()> {
     let none = Tally {
@@ -25,20 +26,18 @@ pub(crate) fn run(rt: HostRuntime) -> io::Result<()> {
 
 // Prints the refusal's number, and the windows and ticks that the record then has.
 fn told(rt: HostRuntime, name: &[u8], before: Tally, start: u64, end: u64) -> io::Result<Tally> {
-    let kept = lent(before, start, end);
-    let after = kept.tally;
-    show::line(rt, name, kept.status % 256, after.windows, after.ticks)?;
+    let (answer, after) = lent(before, start, end);
+    let number = answer.err().map_or(0, |r| r.number());
+    show::line(rt, name, number, after.windows, after.ticks)?;
     Ok(after)
 }
 
 // Adds a window to a record of its own, which it lends.
-fn lent(before: Tally, start: u64, end: u64) -> Kept
-    ensures { (result.status ≡ status_of (added_to before start end)) × (result.tally ≡ after before (added_to before start end)) }
+fn lent(before: Tally, start: u64, end: u64) -> (Result<(), Refusal>, Tally)
+    ensures answered { result.0 ≡ answer_of (added_to before start end) }
+    ensures kept { result.1 ≡ after before (added_to before start end) }
 {
     let mut record = before;
-    let status = tally::add(&mut record, start, end);
-    Kept {
-        status: status,
-        tally: record,
-    }
+    let answer = tally::add(&mut record, start, end);
+    (answer, record)
 }

@@ -1,7 +1,6 @@
 // Pattern text at the edges: the syntax places, the most entries, the most bytes, and reading back what was printed.
 use crate::show;
 use std::io;
-use text::{Printing, Reading};
 
 pub(crate) fn run(rt: HostRuntime) -> io::Result<()> {
     read(rt, b"text: empty", b"")?;
@@ -40,38 +39,19 @@ fn most(rt: HostRuntime) -> io::Result<()> {
 // Prints the bytes of body written, or the refusal.
 fn read(rt: HostRuntime, name: &[u8], pattern: &[u8]) -> io::Result<()> {
     let mut body = [0u8; 315];
-    match text::read_pattern(pattern, &mut body) {
-        Reading::Read(bytes) => show::line(rt, name, 0, bytes as u64, 0),
-        Reading::Refused(r) => show::refused(rt, name, r),
-    }
+    show::answer(rt, name, text::read_pattern(pattern, &mut body))
 }
 
 // Prints the text that is printed from what was read.
 fn print(rt: HostRuntime, name: &[u8], pattern: &[u8]) -> io::Result<()> {
     let mut body = [0u8; 315];
-    let bytes = read_bytes(pattern, &mut body);
+    let bytes = text::read_pattern(pattern, &mut body).unwrap_or(0);
     let mut back = [0u8; 807];
-    let long = print_bytes(&body, bytes, &mut back);
+    let long = match body.get(0..bytes) {
+        Some(body) => text::print_pattern(body, &mut back).unwrap_or(0),
+        None => 0,
+    };
     rt.write_all(name)?;
     show::first(rt, &back, long)?;
     rt.write_all(b"\n")
-}
-
-// The bytes of body written, 0 if the text is refused.
-fn read_bytes(pattern: &[u8], body: &mut [u8]) -> usize {
-    match text::read_pattern(pattern, body) {
-        Reading::Read(bytes) => bytes,
-        Reading::Refused(_) => 0,
-    }
-}
-
-// The bytes of text written from a body's first bytes, 0 if it is refused.
-fn print_bytes(body: &[u8], bytes: usize, back: &mut [u8]) -> usize {
-    if body.len() < bytes {
-        return 0;
-    }
-    match text::print_pattern(&body[0..bytes], back) {
-        Printing::Printed(long) => long,
-        Printing::Refused(_) => 0,
-    }
 }

@@ -1,8 +1,6 @@
 // The watcher at the edges: the last tick, late ticks, and a state damaged in each of its kinds of word.
 use crate::show;
 use std::io;
-use text::Reading;
-use watcher::{Needed, Opening, Ticking};
 
 pub(crate) fn run(rt: HostRuntime) -> io::Result<()> {
     room_of(rt, b"room: (A;(B;C))", b"(A;(B;C))")?;
@@ -14,17 +12,9 @@ pub(crate) fn run(rt: HostRuntime) -> io::Result<()> {
 
 fn room_of(rt: HostRuntime, name: &[u8], pattern: &[u8]) -> io::Result<()> {
     let mut body = [0u8; 315];
-    let bytes = read(pattern, &mut body);
-    if bytes <= body.len() {
-        show_room(rt, name, &body[0..bytes])?;
-    }
-    Ok(())
-}
-
-fn show_room(rt: HostRuntime, name: &[u8], body: &[u8]) -> io::Result<()> {
-    match watcher::room(body) {
-        Needed::Words(n) => show::line(rt, name, 0, n as u64, 0),
-        Needed::Refused(r) => show::refused(rt, name, r),
+    match read(pattern, &mut body) {
+        Some(body) => show::answer(rt, name, watcher::room(body)),
+        None => Ok(()),
     }
 }
 
@@ -59,62 +49,45 @@ fn damaged(rt: HostRuntime) -> io::Result<()> {
 fn damage(rt: HostRuntime, name: &[u8], at: usize, word: u64, good: u64) -> io::Result<()> {
     let mut state = [0u64; 22];
     ready(&mut state);
-    store(&mut state, at, word);
+    show::store(&mut state, at, word);
     tick(rt, name, &mut state, 3, 3)?;
-    store(&mut state, at, good);
+    show::store(&mut state, at, good);
     tick(rt, b"mended", &mut state, 3, 3)
 }
 
 // Opened, and ticked three times.
 fn ready(state: &mut [u64]) {
     open_first(state);
-    watcher::tick(state, 0, 7);
-    watcher::tick(state, 1, 8);
-    watcher::tick(state, 2, 3);
+    for (t, word) in [(0, 7), (1, 8), (2, 3)] {
+        let _ = watcher::tick(state, t, word);
+    }
 }
 
 fn open_first(state: &mut [u64]) {
     let mut body = [0u8; 315];
-    let bytes = read(b"((A+B)-(C;(D;E)))", &mut body);
-    if bytes <= body.len() {
-        watcher::open(&body[0..bytes], state);
-    }
-}
-
-fn store(state: &mut [u64], at: usize, word: u64) {
-    if at < state.len() {
-        state[at] = word;
+    if let Some(body) = read(b"((A+B)-(C;(D;E)))", &mut body) {
+        let _ = watcher::open(body, state);
     }
 }
 
 fn open(rt: HostRuntime, name: &[u8], pattern: &[u8], state: &mut [u64]) -> io::Result<()> {
     let mut body = [0u8; 315];
-    let bytes = read(pattern, &mut body);
-    if bytes <= body.len() {
-        show_open(rt, name, &body[0..bytes], state)?;
-    }
-    Ok(())
-}
-
-fn show_open(rt: HostRuntime, name: &[u8], body: &[u8], state: &mut [u64]) -> io::Result<()> {
-    match watcher::open(body, state) {
-        Opening::Opened => show::line(rt, name, 0, 0, 0),
-        Opening::Refused(r) => show::refused(rt, name, r),
+    match read(pattern, &mut body) {
+        Some(body) => show::done(rt, name, watcher::open(body, state)),
+        None => Ok(()),
     }
 }
 
 // Prints a window's start + 1 as the second number, 0 for none.
 fn tick(rt: HostRuntime, name: &[u8], state: &mut [u64], t: u64, events: u32) -> io::Result<()> {
     match watcher::tick(state, t, events) {
-        Ticking::Window(start) => show::line(rt, name, 0, start % 4294967296 + 1, 0),
-        Ticking::Nothing => show::line(rt, name, 0, 0, 0),
-        Ticking::Refused(r) => show::refused(rt, name, r),
+        Ok(window) => show::line(rt, name, 0, window.map_or(0, |s| s % (1 << 32) + 1), 0),
+        Err(r) => show::refused(rt, name, r),
     }
 }
 
-fn read(pattern: &[u8], body: &mut [u8]) -> usize {
-    match text::read_pattern(pattern, body) {
-        Reading::Read(bytes) => bytes,
-        Reading::Refused(_) => 0,
-    }
+// The body of a pattern's text, as the first bytes of a slice; the empty body if the text is refused.
+fn read<'a>(pattern: &[u8], body: &'a mut [u8]) -> Option<&'a [u8]> {
+    let bytes = text::read_pattern(pattern, body).unwrap_or(0);
+    body.get(0..bytes)
 }

@@ -6,7 +6,6 @@ use Prim.Native.Nat.{ℕ, ◌+◌, ◌≤◌, ◌<◌}
 use lib.Dec.{eqb}
 use lib.ListN.{length, drop, get_or, drop_of_length-le}
 use borrow.Author.Tests.{eq-eqb, ne_eqb, lt-ltb, le-ltb}
-use Rattle.rules.proofs.Lists.{drop_at}
 use Rattle.rules.specs.declared.Op.{Op}
 use Rattle.rules.specs.declared.Op.TheVariants.{Either}
 use Rattle.cell.specs.Cell.{cell_words}
@@ -14,19 +13,6 @@ use Rattle.cell.specs.Form.{pair_fits, all_zero, kept_fits, cell_fits, size_fits
 use Rattle.cell.proofs.Sizes.{size_fits_words}
 use Rattle.cell.proofs.Pairs.{drop_two}
 
-pub all_zero_end : (c : List ℕ) (at : ℕ) → length c ≤ at → all_zero (drop at c) ≡ true
-unfolding all_zero
-all_zero_end c at h = rw (drop_of_length-le c h)
-
-pub all_zero_turn : (c : List ℕ) (at : ℕ) → at < length c → get_or c at 0 ≡ 0 → all_zero (drop at c) ≡ all_zero (drop (at + 1) c)
-unfolding all_zero
-all_zero_turn c at h z = rw (drop_at c at h, eq-eqb (get_or c at 0) 0 z)
-
-pub all_zero_not : (c : List ℕ) (at : ℕ) → at < length c → (get_or c at 0 ≡ 0 → ⊥) → all_zero (drop at c) ≡ false
-unfolding all_zero
-all_zero_not c at h z = rw (drop_at c at h, ne_eqb (get_or c at 0) 0 z)
-
--- the kept pairs from a place on
 pub kept_fits_end : (τ last : ℕ) (c : List ℕ) (at : ℕ) → length c ≤ at → kept_fits τ last (drop at c) ≡ true
 unfolding kept_fits
 kept_fits_end τ last c at h = rw (drop_of_length-le c h)

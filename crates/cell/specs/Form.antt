@@ -1,5 +1,6 @@
 -- The form of a cell's words, where the next tick allowed is τ (docs/RULES.md, "Room and state"). Assumes nothing: these are definitions.
-use Rattle.std.specs.Prelude.{Bool, true, false, cond, List, [], ◌∷◌, ℕ, ◌%◌, ltb, leb, eqb, get_or, drop, length}
+use Rattle.std.specs.Prelude.{Bool, true, false, cond, List, [], ◌∷◌, ℕ, ◌%◌, ltb, leb, eqb, get_or, drop, length, ◌==◌}
+use Rattle.std.specs.List.{list_all}
 use Rattle.rules.specs.declared.Op.{Op}
 use Rattle.rules.specs.declared.Op.TheVariants.{Either, Both, Without, Chain}
 
@@ -7,9 +8,9 @@ use Rattle.rules.specs.declared.Op.TheVariants.{Either, Both, Without, Chain}
 unfoldable pub pair_fits : ℕ → ℕ → ℕ → Bool
 pair_fits τ a b = cond (eqb a 0) (eqb b 0) (cond (leb a b) (leb b τ) false)
 
+-- every word is zero
 unfoldable pub all_zero : List ℕ → Bool
-all_zero [] = true
-all_zero (a ∷ c) = cond (eqb a 0) (all_zero c) false
+all_zero c = list_all (λ a. a == 0) c
 
 -- the kept pairs are first, with starts strictly rising, and zeros after
 unfoldable pub kept_fits : ℕ → ℕ → List ℕ → Bool

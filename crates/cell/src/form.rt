@@ -5,61 +5,47 @@ ghost use Rattle.cell.specs.Form.{pair_fits, all_zero, kept_fits, size_fits, cel
 ghost use Rattle.cell.specs.Calls.{Paired};
 
 // Left and right.
+#[tactic(auto, unfolding(crate::specs::Form::cell_in_form, crate::specs::Form::size_fits, crate::specs::Form::cell_fits))]
 pub(crate) fn both_fits(cell: &[u64], next: u64) -> bool
     ensures { result ≡ cell_in_form next Both cell.now }
 {
-    if cell.len() != 4 {
-        return false;
-    }
-    if pair_fits(cell[0], cell[1], next) {
-        return pair_fits(cell[2], cell[3], next);
-    }
-    false
+    cell.len() == 4 && pair_fits(cell[0], cell[1], next) && pair_fits(cell[2], cell[3], next)
 }
 
 // The latest start of y seen.
+#[tactic(auto, unfolding(crate::specs::Form::cell_in_form, crate::specs::Form::size_fits, crate::specs::Form::cell_fits))]
 pub(crate) fn without_fits(cell: &[u64], next: u64) -> bool
     ensures { result ≡ cell_in_form next Without cell.now }
 {
-    if cell.len() != 1 {
-        return false;
-    }
-    cell[0] <= next
+    cell.len() == 1 && cell[0] <= next
 }
 
 // Latest and the kept pairs.
+#[tactic(auto, unfolding(crate::specs::Form::cell_in_form, crate::specs::Form::size_fits, crate::specs::Form::cell_fits), using(crate::proofs::Sizes::chain_paired))]
 pub(crate) fn chain_fits(cell: &[u64], next: u64) -> bool
     ensures { result ≡ cell_in_form next Chain cell.now }
 {
-    if whole_pairs(cell.len()) {
-        if pair_fits(cell[0], cell[1], next) {
-            return kept_fits(cell, next);
-        }
-    }
-    false
+    whole_pairs(cell.len()) && pair_fits(cell[0], cell[1], next) && kept_fits(cell, next)
 }
 
 // Whether n words are whole pairs, at least one.
+#[tactic(auto, unfolding(crate::specs::Form::size_fits))]
 pub(crate) fn whole_pairs(n: usize) -> bool
     ensures { result ≡ size_fits Chain n }
 {
-    if n < 2 {
-        return false;
-    }
-    n % 2 == 0
+    2 <= n && n % 2 == 0
 }
 
 // Whether a pair is empty, or ends no earlier than it starts and before the next tick.
+#[tactic(auto, unfolding(crate::specs::Form::pair_fits))]
 pub(crate) fn pair_fits(start: u64, end: u64, next: u64) -> bool
     ensures { result ≡ pair_fits next start end }
 {
     if start == 0 {
-        return end == 0;
+        end == 0
+    } else {
+        start <= end && end <= next
     }
-    if start <= end {
-        return end <= next;
-    }
-    false
 }
 
 // Whether the kept pairs are first, with starts strictly rising, and zeros after.
@@ -68,36 +54,26 @@ pub(crate) fn kept_fits(cell: &[u64], next: u64) -> bool
     ensures { result ≡ kept_fits next 0 (drop 2 cell.now) }
 {
     let mut last: u64 = 0;
-    let mut at: usize = 2;
-    while at < cell.len() {
-        let start = cell[at];
+    for i in 1..cell.len() / 2 {
+        let start = cell[2 * i];
         if start == 0 {
-            return all_zero(cell, at);
+            return all_zero(&cell[2 * i..]);
         }
         if start <= last {
             return false;
         }
-        if pair_fits(start, cell[at + 1], next) {
-            last = start;
-            at += 2;
-        } else {
+        if !pair_fits(start, cell[2 * i + 1], next) {
             return false;
         }
+        last = start;
     }
     true
 }
 
-// Whether the words from a place on are all zero.
-pub(crate) fn all_zero(cell: &[u64], from: usize) -> bool
-    ensures { result ≡ all_zero (drop from cell.now) }
+// Whether every word is zero.
+#[tactic(auto, unfolding(crate::specs::Form::all_zero))]
+pub(crate) fn all_zero(words: &[u64]) -> bool
+    ensures { result ≡ all_zero words.now }
 {
-    let mut at = from;
-    while at < cell.len() {
-        let word = cell[at];
-        if word != 0 {
-            return false;
-        }
-        at += 1;
-    }
-    true
+    words.iter().all(|word| *word == 0)
 }

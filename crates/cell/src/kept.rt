@@ -25,9 +25,7 @@ pub(crate) fn gather_pairs(cell: &[u64], pairs: usize, starts: &[u64], kept: &mu
     ensures { Gathered cell.now pairs starts.now kept.new result }
 {
     let mut count: usize = 0;
-    let mut i = starts.len();
-    while 0 < i {
-        i -= 1;
+    for i in (0..starts.len()).rev() {
         count = keep_pair(
             kept,
             count,
@@ -54,10 +52,8 @@ pub(crate) fn insert_pair(kept: &mut [u64], count: usize, pair: Pair) -> usize
     ensures { Grown (insert (span_of pair) (spans_from kept.old 0 count)) count kept.new result }
 {
     let mut carried = pair;
-    let mut i: usize = 0;
-    while i < count {
+    for i in 0..count {
         let at = 2 * i;
-        i += 1;
         let here = crate::pair::pair_at(kept, at);
         if carried.start == here.start {
             crate::pair::put_pair(kept, at, crate::pair::better_of(carried, here));
@@ -77,10 +73,8 @@ pub(crate) fn store_kept(cell: &mut [u64], kept: &[u64], count: usize)
     requires { StoreReady cell.old kept.now count }
     ensures { cell.new ≡ take 2 cell.old ++ new_words cell.old kept.now count }
 {
-    let mut i: usize = 0;
-    while i + 2 < cell.len() {
+    for i in 0..cell.len() - 2 {
         cell[i + 2] = word_or_zero(kept, 2 * count, i);
-        i += 1;
     }
 }
 

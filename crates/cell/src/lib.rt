@@ -57,29 +57,27 @@ pub fn step(op: Op, cell: &mut [u64], starts: &[u64], x: u64, y: u64, end: u64) 
     ensures { StepAnswers op end x y starts.now cell.old cell.new result }
 {
     match op {
-        Op::Either => {
-            if cell.len() == 0 {
-                return stepping::larger(x, y);
-            }
-            0
-        }
+        Op::Either => { if cell.len() == 0 { x.max(y) } else { 0 } }
         Op::Both => {
             if cell.len() == 4 {
-                return stepping::both_step(cell, x, y, end);
+                stepping::both_step(cell, x, y, end)
+            } else {
+                0
             }
-            0
         }
         Op::Without => {
             if cell.len() == 1 {
-                return stepping::without_step(cell, x, y);
+                stepping::without_step(cell, x, y)
+            } else {
+                0
             }
-            0
         }
         Op::Chain => {
             if stepping::is_chain(starts.len(), cell.len()) {
-                return stepping::chain_step(cell, starts, x, y, end);
+                stepping::chain_step(cell, starts, x, y, end)
+            } else {
+                0
             }
-            0
         }
     }
 }

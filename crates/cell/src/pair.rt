@@ -8,7 +8,7 @@ ghost use Rattle.cell.specs.Pairs.{span_of, spans_from, put_span};
 ghost use Rattle.cell.specs.Calls.{Paired, PairsIn};
 
 // A pair: start + 1 and end + 1, or 0 and 0 for none.
-#[derive(Clone, Copy)]
+#[derive(Clone, Copy, Debug, PartialEq, Eq)]
 pub(crate) struct Pair {
     pub(crate) start: u64,
     pub(crate) end: u64,
@@ -37,15 +37,13 @@ pub(crate) fn pairs_in(cell: &[u64]) -> usize
     requires { Paired (length cell.now) }
     ensures { PairsIn cell.now result }
 {
-    let mut pairs: usize = 1;
-    while 2 * pairs < cell.len() {
+    for pairs in 1..cell.len() / 2 {
         let start = cell[2 * pairs];
         if start == 0 {
             return pairs;
         }
-        pairs += 1;
     }
-    pairs
+    cell.len() / 2
 }
 
 // Of the first pairs those that end before a start, and of these the one with the latest start (of equal starts, the lesser end), or none.
@@ -54,9 +52,7 @@ pub(crate) fn choose_pair(cell: &[u64], pairs: usize, start: u64) -> Pair
     ensures { span_of result ≡ choose (spans_from cell.now 0 pairs) start }
 {
     let mut chosen = Pair { start: 0, end: 0 };
-    let mut i = pairs;
-    while 0 < i {
-        i -= 1;
+    for i in (0..pairs).rev() {
         chosen = better_before(pair_at(cell, 2 * i), chosen, start);
     }
     chosen

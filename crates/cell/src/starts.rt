@@ -35,10 +35,7 @@ pub(crate) fn push_chain(cell: &[u64], starts: &mut [u64], at: usize) -> usize
 pub(crate) fn has_room(length: usize, at: usize, n: usize) -> bool
     ensures { result ≡ leb (at + n) length }
 {
-    if length < at {
-        return false;
-    }
-    n <= length - at
+    at <= length && n <= length - at
 }
 
 // Puts the starts of a chain where there is room for them.
@@ -46,11 +43,10 @@ pub(crate) fn put_chain(cell: &[u64], starts: &mut [u64], at: usize) -> usize
     requires { Paired (length cell.now) × (at + length cell.now / 2 ≤ length starts.old) }
     ensures { Pushed Chain cell.now starts.old at starts.new result }
 {
-    let mut i: usize = 0;
-    while 2 * i + 2 < cell.len() {
+    let kept = cell.len() / 2 - 1;
+    for i in 0..kept {
         starts[at + i] = cell[2 * i + 2];
-        i += 1;
     }
-    starts[at + i] = cell[0];
-    at + i + 1
+    starts[at + kept] = cell[0];
+    at + kept + 1
 }

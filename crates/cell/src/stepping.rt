@@ -12,13 +12,11 @@ ghost use Rattle.cell.specs.Calls.{kept_after};
 use crate::pair::Pair;
 
 // Whether n words are the cell of a `;` whose right operand has y possible starts, at most 62.
+#[tactic(auto, unfolding(crate::specs::Calls::is_cell, crate::specs::Cell::cell_words))]
 pub(crate) fn is_chain(y: usize, n: usize) -> bool
     ensures { result ≡ is_cell Chain y n }
 {
-    if 62 < y {
-        return false;
-    }
-    n == 2 * (1 + y)
+    y <= 62 && n == 2 * (1 + y)
 }
 
 // The greater of min(x, right) and min(left, y), left and right as they become.
@@ -28,7 +26,7 @@ pub(crate) fn both_step(cell: &mut [u64], x: u64, y: u64, end: u64) -> u64
 {
     let left = renew(cell, 0, x, end);
     let right = renew(cell, 2, y, end);
-    larger(lesser(x, right), lesser(left, y))
+    x.min(right).max(left.min(y))
 }
 
 // The answer of x stands if it starts strictly later than the latest start of y seen.
@@ -36,12 +34,9 @@ pub(crate) fn without_step(cell: &mut [u64], x: u64, y: u64) -> u64
     requires { length cell.old ≡ 1 }
     ensures { (e : ℕ) (ys : List ℕ) → Stepped Without e x y ys cell.old cell.new result }
 {
-    let seen = larger(cell[0], y);
+    let seen = cell[0].max(y);
     cell[0] = seen;
-    if seen < x {
-        return x;
-    }
-    0
+    if seen < x { x } else { 0 }
 }
 
 // The answer and the new kept pairs are chosen from the kept pairs and latest as they were; only then is latest renewed.
@@ -69,25 +64,11 @@ pub(crate) fn choose_and_keep(cell: &mut [u64], starts: &[u64], y: u64) -> u64
 }
 
 // The start of a pair that ends before another start, else 0.
+#[tactic(auto, using(rules::proofs::Decisions::pick_yes, rules::proofs::Decisions::pick_no))]
 pub(crate) fn start_before(start: u64, end: u64, y: u64) -> u64
     ensures { result ≡ pick (dec_lt end y) start 0 }
 {
-    if end < y {
-        return start;
-    }
-    0
-}
-
-pub(crate) fn larger(a: u64, b: u64) -> u64
-    ensures { result ≡ max a b }
-{
-    if a < b { b } else { a }
-}
-
-pub(crate) fn lesser(a: u64, b: u64) -> u64
-    ensures { result ≡ min a b }
-{
-    if a < b { a } else { b }
+    if end < y { start } else { 0 }
 }
 
 // Replaces the pair at a place by the answer, with its end word, if that starts strictly later; gives the start then.

@@ -2,6 +2,7 @@
 #![tactic(auto)]
 
 ghost use Rattle.std.specs.Prelude.{◌≡◌, ◌≤◌, ◌++◌, length, take, drop};
+ghost use Rattle.copying.specs.Copy.{CopyOf};
 
 // Copies all of `from` to the front of `to`. The rest of `to` stays as it was.
 pub fn copy(from: &[u8], to: &mut [u8])
@@ -9,4 +10,16 @@ pub fn copy(from: &[u8], to: &mut [u8])
     ensures { to.new ≡ take (length from.now) from.now ++ drop (length from.now) to.old }
 {
     to[0..from.len()].copy_from_slice(from);
+}
+
+// Copies all of `from` to the front of `to`, and answers how many bytes these are; an error is the room that they need, where `to` has less.
+pub fn copy_if_room(from: &[u8], to: &mut [u8]) -> Result<usize, usize>
+    ensures { CopyOf from.now to.old to.new result }
+{
+    let need = from.len();
+    if to.len() < need {
+        return Err(need);
+    }
+    to[..need].copy_from_slice(from);
+    Ok(need)
 }

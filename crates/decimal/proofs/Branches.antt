@@ -1,4 +1,5 @@
--- Cases of a test, with the fact that each gives. Assumes nothing.
+-- Cases of a test or an option, with the fact that each gives. Assumes nothing.
+use Rattle.std.specs.Prelude.{Option, Some, None}
 use mathlib.Core.Path.{◌≡◌, refl}
 use mathlib.Core.Bool.{Bool, true, false}
 use Prim.Native.Nat.{ℕ, ◌<◌, ◌≤◌}
@@ -14,3 +15,7 @@ either_way {C} a b f g = by_test (λ t. C) (ltb a b) (λ e. f (ltb-true a b e)) 
 
 pub either_is : {C : Type 0} (a b : ℕ) → (a ≡ b → C) → ((a ≡ b → ⊥) → C) → C
 either_is {C} a b f g = by_test (λ t. C) (eqb a b) (λ e. f (eqb-true a b e)) (λ e. g (eqb-false a b e))
+
+pub by_option : {A : Type 0} (C : Option A → Type 0) (o : Option A) → ((x : A) → o ≡ Some x → C (Some x)) → (o ≡ None → C None) → C o
+by_option {A} C None f g = g refl
+by_option {A} C (Some x) f g = f x refl

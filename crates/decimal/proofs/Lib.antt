@@ -1,3 +1,3 @@
 pub mod Branches
 pub mod Decimals
-pub mod Backwards
+pub mod Written

@@ -1,2 +1,2 @@
 pub mod Decimal
-pub mod Backward
+pub mod Before

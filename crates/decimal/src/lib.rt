@@ -1,34 +1,82 @@
-// Numbers in decimal, written backwards, since the last digit of a number is found first.
+// Bytes and numbers in decimal, written backwards, since the last digit of a number is found first.
 #![tactic(auto)]
 
-ghost use Rattle.std.specs.Prelude.{[], ◌∷◌};
+ghost use Rattle.std.specs.Prelude.{◌≡◌, ◌+◌, min, [], ◌∷◌, length};
 ghost use Rattle.decimal.specs.Decimal.{decimal};
-ghost use Rattle.decimal.specs.Backward.{Backward};
+ghost use Rattle.decimal.specs.Before.{Before};
 
-// Writes a number so that it ends before `at`, and answers where it begins. If there is no room before `at`, what `out` holds afterwards is no number.
-pub fn write_number(out: &mut [u8], at: usize, n: u64) -> usize
-    ensures { Backward out.old out.new at result (decimal n) }
-{
-    let mut left = n;
-    let mut from = at;
-    while left > 9 {
-        from = write_byte(out, from, (left % 10) as u8 + b'0');
-        left = left / 10;
-    }
-    write_byte(out, from, left as u8 + b'0')
+use std::marker::Model;
+
+// Bytes that are written from the last to the first, of which there are at most `N`.
+#[derive(Drop)]
+pub struct Backwards<const N: usize> {
+    bytes: [u8; N],
+    from: usize,
 }
 
-// Writes a byte before `at`, and answers its place. If there is no such place in `out`, nothing is written.
-pub fn write_byte(out: &mut [u8], at: usize, byte: u8) -> usize
-    ensures { Backward out.old out.new at result (byte ∷ []) }
-{
-    if out.len() < at {
-        return at - 1;
+// Clauses see the bytes written, the first one first.
+impl<const N: usize> Model for Backwards<N> {
+    ghost use Rattle.std.specs.Prelude.{ℕ, ◌≤◌, List, drop};
+
+    ghost Value = { List ℕ };
+
+    ghost view = { λ b. drop b.from b.bytes };
+
+    ghost invariant = { λ b. b.from ≤ N };
+}
+
+impl<const N: usize> Backwards<N> {
+    // Nothing written.
+    pub fn new() -> Self
+        ensures { result ≡ [] }
+    {
+        Backwards {
+            bytes: [0; N],
+            from: N,
+        }
     }
-    if at == 0 {
-        return 0;
+
+    // Writes a byte before those written, if there is room for it.
+    pub fn byte(&mut self, byte: u8)
+        ensures written { Before N self.old self.new (byte ∷ []) }
+        ensures counts { length self.new ≡ min N (length self.old + 1) }
+    {
+        if self.from > 0 {
+            self.from -= 1;
+            self.bytes[self.from] = byte;
+        }
     }
-    let place = at - 1;
-    out[place] = byte;
-    place
+
+    // Writes a word before what is written.
+    pub fn word(&mut self, word: &[u8])
+        ensures written { Before N self.old self.new word.now }
+        ensures counts { length self.new ≡ min N (length self.old + length word.now) }
+    {
+        // so the proof learns that at most `N` are written before it
+        let _ = &self.bytes;
+        for byte in word.iter().copied().rev() {
+            self.byte(byte);
+        }
+    }
+
+    // Writes a number before what is written. If there is no room for it, what is written afterwards is no number.
+    pub fn number(&mut self, n: u64)
+        ensures written { Before N self.old self.new (decimal n) }
+        ensures counts { length self.new ≡ min N (length self.old + length (decimal n)) }
+    {
+        let mut left = n;
+        while left > 9 {
+            self.byte((left % 10) as u8 + b'0');
+            left /= 10;
+        }
+        self.byte(left as u8 + b'0');
+    }
+
+    // What is written.
+    pub fn written(&self) -> &[u8]
+        ensures { result.now ≡ self.now }
+    {
+        let all = &self.bytes[..];
+        &all[self.from..]
+    }
 }

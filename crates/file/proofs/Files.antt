@@ -1,9 +1,9 @@
 -- A file's contents and the names and numbers of entries that they hold: each gives the other back. An entry is read from its own bytes, and those
 -- after it from what follows them. Assumes nothing.
+use Rattle.std.specs.Prelude.{None, Ok}
 use Prim.Native.Nat.{ℕ, zero, suc, ◌+◌, ◌*◌, ◌≤◌, ◌<◌}
 use mathlib.Core.Path.{◌≡◌, refl, sym, ap, ap₂, ◌∙◌}
 use mathlib.Core.List.{List, [], ◌∷◌, ◌++◌, append_assoc}
-use mathlib.Core.Option.{none}
 use native.Mathlib.Omega.{arith}
 use lib.ListN.{length, get_or, take, drop, length-append, length-drop, take-append-drop}
 use lib.Seq.{length-take-le, get_or-drop, take_at, drop_at, take-add, drop-drop}
@@ -13,11 +13,9 @@ use Rattle.rules.proofs.Impossible.{impossible}
 use Rattle.rules.specs.Limits.{most_entries}
 use Rattle.body.specs.Bytes.{bytes_of, value_at, Bytes}
 use Rattle.body.proofs.Bytes.{value_drop, value_bytes, bytes_value}
-use Rattle.file.specs.declared.FileCheck.TheVariants.{Sound}
-use Rattle.file.specs.declared.Place.TheVariants.{At}
 use Rattle.file.specs.Contents.{body_bytes, name_bytes, contents_bytes, bodies_at, name_of, content_of, contents, file_of, total}
 use Rattle.file.specs.Check.{broken_entry, names_in, counts_in, content_kept, broken_content, parts_check, file_check}
-use Rattle.file.specs.Place.{place_in}
+use Rattle.file.specs.Place.{place_at, place_in}
 use Rattle.file.specs.Claim.{PartsOf, Parts}
 use Rattle.file.proofs.Checks.{entries_first, entries_small, content_kept_right, contents_first, length_counts}
 use Rattle.file.proofs.Checks.{PartsSound, parts_sound, sound_parts, RestSound, rest_sound, sound_rest}
@@ -86,7 +84,7 @@ module _ (rest : List ℕ) where
 
   -- and where the parts break no rule, neither do the contents
   pub contents_kept : (before names counts : List ℕ) (offset i : ℕ) → length names ≡ name_bytes * length counts → offset + total counts < 65536
-      → broken_entry before names counts i ≡ none → broken_content before (contents names counts offset ++ rest) (length counts) offset i ≡ none
+      → broken_entry before names counts i ≡ None → broken_content before (contents names counts offset ++ rest) (length counts) offset i ≡ None
   unfolding broken_content content_kept total
   contents_kept before names [] offset i h l p = refl
   contents_kept before names (n ∷ counts) offset i h l p =
@@ -110,7 +108,7 @@ module _ (rest : List ℕ) where
   -- and the place that entry number i says is that of body number i
   pub place_there : (names counts : List ℕ) (offset i : ℕ) → length names ≡ name_bytes * length counts → offset + total counts < 65536
       → i < length counts
-      → place_in (drop (contents_bytes * i) (contents names counts offset ++ rest)) ≡ At (offset + total (take i counts)) (body_bytes (get_or counts i 0))
+      → place_in (drop (contents_bytes * i) (contents names counts offset ++ rest)) ≡ place_at (offset + total (take i counts)) (body_bytes (get_or counts i 0))
   unfolding total
   place_there names [] offset i h l k = absurd (omega arith)
   place_there names (n ∷ counts) offset zero h l k =
@@ -119,7 +117,7 @@ module _ (rest : List ℕ) where
       let long : length name ≡ name_bytes = length-take-le name_bytes names (omega arith) in
       let z : offset ≡ offset + 0 = omega arith in
       rw (contents_cons names n counts offset, head_offset name more offset n long (omega arith), head_count name more offset n long)
-      (ap (λ (o : ℕ). At o (body_bytes n)) z)
+      (ap (λ (o : ℕ). place_at o (body_bytes n)) z)
   place_there names (n ∷ counts) offset (suc i) h l k =
       let name : List ℕ = take name_bytes names in
       let more : List ℕ = contents (drop name_bytes names) counts (offset + body_bytes n) ++ rest in
@@ -133,7 +131,7 @@ module _ (rest : List ℕ) where
         head_rest name more offset n long,
       )
       (place_there (drop name_bytes names) counts (offset + body_bytes n) i (omega (arith, length-drop name_bytes names)) (omega arith) (omega arith)
-      ∙ ap (λ (o : ℕ). At o (body_bytes (get_or counts i 0))) z)
+      ∙ ap (λ (o : ℕ). place_at o (body_bytes (get_or counts i 0))) z)
 
 -- bytes of parts of a list of bytes
 bytes_append : (a b : List ℕ) → Bytes a → Bytes b → Bytes (a ++ b)
@@ -210,8 +208,8 @@ entry_back c offset w h p z =
     (take-add 2 2 (drop 8 c) ∙ ap₂ (λ (r s : List ℕ). r ++ s) offset-bytes (ap (take 2) (drop-drop 2 8 c) ∙ last))
 
 -- contents that break no rule are those of the names and numbers that they hold, which break none either
-pub entries_back : (before c : List ℕ) (k offset i : ℕ) → Bytes c → contents_bytes * k ≤ length c → broken_content before c k offset i ≡ none
-    → (broken_entry before (names_in c k) (counts_in c k) i ≡ none) × (take (contents_bytes * k) c ≡ contents (names_in c k) (counts_in c k) offset)
+pub entries_back : (before c : List ℕ) (k offset i : ℕ) → Bytes c → contents_bytes * k ≤ length c → broken_content before c k offset i ≡ None
+    → (broken_entry before (names_in c k) (counts_in c k) i ≡ None) × (take (contents_bytes * k) c ≡ contents (names_in c k) (counts_in c k) offset)
 unfolding names_in counts_in broken_entry contents
 entries_back before c zero offset i w h p = (refl, refl)
 entries_back before c (suc k) offset i w h p =
@@ -259,12 +257,12 @@ module _ (names counts bodies : List ℕ) (s : PartsSound names counts bodies) w
   }
 
 -- what the writer writes is accepted
-pub written_sound : (names counts bodies : List ℕ) → parts_check names counts bodies ≡ Sound → file_check (file_of names counts bodies) ≡ Sound
+pub written_sound : (names counts bodies : List ℕ) → parts_check names counts bodies ≡ Ok tt → file_check (file_of names counts bodies) ≡ Ok tt
 unfolding file_check
 written_sound names counts bodies p = sound_rest (length counts) _ (rest_made names counts bodies (parts_sound names counts bodies p))
 
 -- the parts of a file that is accepted
-pub accepted_parts : (f : List ℕ) → Bytes f → file_check f ≡ Sound → Parts f
+pub accepted_parts : (f : List ℕ) → Bytes f → file_check f ≡ Ok tt → Parts f
 unfolding file_check
 accepted_parts [] w p = impossible cc
 accepted_parts (count ∷ f) w p =

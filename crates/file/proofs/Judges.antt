@@ -1,11 +1,11 @@
 -- Each answer of a check is given exactly when the rules call for it. A search by index finds the lowest number for which a rule is broken, and there
 -- is only one such number; this serves entries and bodies. Assumes nothing.
+use Rattle.std.specs.Prelude.{Err, None, Ok, Option, Result, Some}
 use Prim.Native.Nat.{ℕ, zero, suc, ◌+◌, ◌-◌, ◌*◌, ◌≤◌, ◌<◌}
 use mathlib.Core.Path.{◌≡◌, refl, sym, ap, subst, ◌∙◌}
 use mathlib.Core.Logic.{◌↔◌}
 use mathlib.Core.Bool.{Bool, true, false, cond}
 use mathlib.Core.List.{List, [], ◌∷◌, ◌++◌}
-use mathlib.Core.Option.{Option, none, some}
 use native.Mathlib.Decide.{dec_lt}
 use native.Mathlib.Nat.{sub-zero}
 use native.Mathlib.Numerals.{add-one}
@@ -20,15 +20,11 @@ use Rattle.rules.specs.Limits.{argument_bytes, most_entries}
 use Rattle.refusal.specs.declared.Refusal.{Refusal}
 use Rattle.refusal.specs.declared.Refusal.TheVariants.{Count, Size}
 use Rattle.refusal.specs.Table.{entry_named, broken_at}
-use Rattle.body.specs.declared.BodyCheck.{BodyCheck}
-use Rattle.body.specs.declared.BodyCheck.TheVariants as Bodies
 use Rattle.body.specs.Bytes.{value_at}
 use Rattle.body.specs.Entry.{entries}
 use Rattle.body.specs.Check.{scan, verdict, check_of as body_check}
 use Rattle.body.proofs.Sizes.{whole_sized, check_by}
 use Rattle.body.proofs.Scan.{left_suc, left_zero}
-use Rattle.file.specs.declared.FileCheck.{FileCheck}
-use Rattle.file.specs.declared.FileCheck.TheVariants.{Sound, Refused}
 use Rattle.file.specs.Contents.{body_bytes, name_bytes, contents_bytes, bodies_at, name_of, total, body_at, body_of}
 use Rattle.file.specs.Check.{entry_kept, broken_entry, broken_body, on_entry, bodies_check, content_kept, broken_content}
 use Rattle.file.specs.Ready.{Whole}
@@ -48,8 +44,8 @@ below_more P i lower here j h = go (dec_lt j i)
 
 -- what a search says: no number below n breaks a rule, or the lowest that does
 abbrev pub Found : (ℕ → Type 0) → ℕ → Option ℕ → Type 0
-Found P n none = AllBelow n P
-Found P n (some i) = (i < n) × AllBelow i P × (P i → ⊥)
+Found P n None = AllBelow n P
+Found P n (Some i) = (i < n) × AllBelow i P × (P i → ⊥)
 
 -- there is one lowest number
 lowest_one : (P : ℕ → Type 0) (i j : ℕ) → AllBelow i P → (P i → ⊥) → AllBelow j P → (P j → ⊥) → i ≡ j
@@ -61,14 +57,14 @@ lowest_one P i j l b l' b' = go (dec_lt i j) (dec_lt j i)
     go (no h) (no k) = omega arith
 
 found_one : (P : ℕ → Type 0) (n : ℕ) (o o' : Option ℕ) → Found P n o → Found P n o' → o ≡ o'
-found_one P n none none f g = refl
-found_one P n none (some j) f g = absurd (g.2 (f j g.0))
-found_one P n (some i) none f g = absurd (f.2 (g i f.0))
-found_one P n (some i) (some j) f g = ap some (lowest_one P i j f.1 f.2 g.1 g.2)
+found_one P n None None f g = refl
+found_one P n None (Some j) f g = absurd (g.2 (f j g.0))
+found_one P n (Some i) None f g = absurd (f.2 (g i f.0))
+found_one P n (Some i) (Some j) f g = ap Some (lowest_one P i j f.1 f.2 g.1 g.2)
 
 -- a search that goes by the index, from any index on
-module _ (P : ℕ → Type 0) (n : ℕ) (s : ℕ → Option ℕ) (t : ℕ → Bool) (turn : (i : ℕ) → i < n → s i ≡ cond (t i) (s (suc i)) (some i))
-    (end : s n ≡ none) (right : (i : ℕ) → i < n → t i ≡ true → P i) (kept : (i : ℕ) → i < n → P i → t i ≡ true) where
+module _ (P : ℕ → Type 0) (n : ℕ) (s : ℕ → Option ℕ) (t : ℕ → Bool) (turn : (i : ℕ) → i < n → s i ≡ cond (t i) (s (suc i)) (Some i))
+    (end : s n ≡ None) (right : (i : ℕ) → i < n → t i ≡ true → P i) (kept : (i : ℕ) → i < n → P i → t i ≡ true) where
   found_from : (k i : ℕ) → i + k ≡ n → AllBelow i P → Found P n (s i)
   found_from zero i e lower =
       let last : i ≡ n = omega arith in
@@ -77,9 +73,9 @@ module _ (P : ℕ → Type 0) (n : ℕ) (s : ℕ → Option ℕ) (t : ℕ → Bo
     where
       go : (u : Bool) → t i ≡ u → (P i → Found P n (s (suc i))) → Found P n (s i)
       go true p later =
-          subst (Found P n) (sym (turn i (omega arith) ∙ ap (λ (u : Bool). cond u (s (suc i)) (some i)) p)) (later (right i (omega arith) p))
+          subst (Found P n) (sym (turn i (omega arith) ∙ ap (λ (u : Bool). cond u (s (suc i)) (Some i)) p)) (later (right i (omega arith) p))
       go false p later =
-          subst (Found P n) (sym (turn i (omega arith) ∙ ap (λ (u : Bool). cond u (s (suc i)) (some i)) p))
+          subst (Found P n) (sym (turn i (omega arith) ∙ ap (λ (u : Bool). cond u (s (suc i)) (Some i)) p))
           (omega arith, lower, λ here. true_or_false (t i) (kept i (omega arith) here) p)
 
   pub found_all : Found P n (s 0)
@@ -100,22 +96,22 @@ total_more counts i h =
     ap total (take-suc counts i 0 h) ∙ omega (arith, total_append (take i counts) (get_or counts i 0 ∷ []))
 
 -- what the search for a broken body says: none is broken, or the lowest that is
-data BodiesJudged (counts bodies : List ℕ) : FileCheck → Type 0 where
+data BodiesJudged (counts bodies : List ℕ) : Result (Unit {0}) Refusal → Type 0 where
   broken : {b e : ℕ} → b < length counts → AllBelow b (BodyRight counts bodies)
-      → body_check argument_bytes (body_of counts bodies b) ≡ Bodies.Refused (broken_at 0 e) → BodiesJudged counts bodies (Refused (broken_at b e))
-  unbroken : AllBelow (length counts) (BodyRight counts bodies) → BodiesJudged counts bodies Sound
+      → body_check argument_bytes (body_of counts bodies b) ≡ Err (broken_at 0 e) → BodiesJudged counts bodies (Err (broken_at b e))
+  unbroken : AllBelow (length counts) (BodyRight counts bodies) → BodiesJudged counts bodies (Ok tt)
 
-not_both : (x : BodyCheck) {r : Refusal} → x ≡ Bodies.Refused r → x ≡ Bodies.Sound → ⊥
+not_both : (x : Result (Unit {0}) Refusal) {r : Refusal} → x ≡ Err r → x ≡ Ok tt → ⊥
 not_both x p q = impossible cc
 
 -- it has one outcome
-bodies_one : {counts bodies : List ℕ} {r r' : FileCheck} → BodiesJudged counts bodies r → BodiesJudged counts bodies r' → r ≡ r'
+bodies_one : {counts bodies : List ℕ} {r r' : Result (Unit {0}) Refusal} → BodiesJudged counts bodies r → BodiesJudged counts bodies r' → r ≡ r'
 bodies_one (unbroken a) (unbroken a') = refl
 bodies_one (unbroken a) (broken {b} h l p) = absurd (not_both _ p (a b h))
 bodies_one (broken {b} h l p) (unbroken a) = absurd (not_both _ p (a b h))
 bodies_one {counts} {bodies} (broken {b} {e} h l p) (broken {b = b'} {e = e'} h' l' p') =
     let same : b ≡ b' = lowest_one (BodyRight counts bodies) b b' l (not_both _ p) l' (not_both _ p') in
-    let q : Bodies.Refused (broken_at 0 e) ≡ Bodies.Refused (broken_at 0 e') =
+    let q : Err (broken_at 0 e) ≡ Err (broken_at 0 e') =
     sym p ∙ ap (λ (i : ℕ). body_check argument_bytes (body_of counts bodies i)) same ∙ p' in
     let r : broken_at 0 e ≡ broken_at 0 e' = cc in
     let place : e ≡ e' = ap entry_named r in
@@ -159,15 +155,15 @@ module _ (counts bodies : List ℕ) (whole : Whole counts bodies)
           → (BodyRight counts bodies b → Searched counts bodies (b + 1) (at + body_bytes (get_or counts b 0))
           → BodiesJudged counts bodies (broken_body counts bodies 0))
           → BodiesJudged counts bodies (broken_body counts bodies 0)
-      go none p k c later = later c (searched_more k p)
-      go (some i) p k c later = subst (BodiesJudged counts bodies) (searched_here k p) (broken k.there lower c)
+      go None p k c later = later c (searched_more k p)
+      go (Some i) p k c later = subst (BodiesJudged counts bodies) (searched_here k p) (broken k.there lower c)
 
   bodies_judged : BodiesJudged counts bodies (broken_body counts bodies 0)
   bodies_judged = bodies_from (length counts) 0 0 (omega arith) (searched_none counts bodies whole) (λ j h. absurd (omega arith))
 
 -- three tests on the count, and then the rest
-abbrev pub gated : Bool → Bool → Bool → FileCheck → FileCheck
-gated t₁ t₂ t₃ rest = cond t₁ (cond t₂ (cond t₃ rest (Refused Count)) (Refused Count)) (Refused Count)
+abbrev pub gated : Bool → Bool → Bool → Result (Unit {0}) Refusal → Result (Unit {0}) Refusal
+gated t₁ t₂ t₃ rest = cond t₁ (cond t₂ (cond t₃ rest (Err Count)) (Err Count)) (Err Count)
 
 module _ (CountRight : Type 0) (Right : ℕ → Type 0) (counts bodies : List ℕ) (t₁ t₂ t₃ : Bool) (o : Option ℕ)
     (counted : t₁ ≡ true → t₂ ≡ true → t₃ ≡ true → CountRight)
@@ -177,7 +173,7 @@ module _ (CountRight : Type 0) (Right : ℕ → Type 0) (counts bodies : List �
   searched : AllBelow (length counts) Right → Whole counts bodies → BodiesJudged counts bodies (broken_body counts bodies 0)
   searched all whole = bodies_judged counts bodies whole (λ i h. few i (all i h))
 
-  with_bodies : {r : FileCheck} → CountRight → AllBelow (length counts) Right → Whole counts bodies → BodiesJudged counts bodies r
+  with_bodies : {r : Result (Unit {0}) Refusal} → CountRight → AllBelow (length counts) Right → Whole counts bodies → BodiesJudged counts bodies r
       → Judged CountRight Right counts bodies r
   with_bodies c a w (broken h l p) = body c a w h l p
   with_bodies c a w (unbroken l) = sound c a w l
@@ -185,10 +181,10 @@ module _ (CountRight : Type 0) (Right : ℕ → Type 0) (counts bodies : List �
   rest_judged : CountRight → (o : Option ℕ) → Found Right (length counts) o
       → Judged CountRight Right counts bodies (on_entry o (bodies_check counts bodies))
   unfolding bodies_check
-  rest_judged c (some i) f = entry c f.0 f.1 f.2
-  rest_judged c none f = go (eqb (length bodies) (total counts)) refl
+  rest_judged c (Some i) f = entry c f.0 f.1 f.2
+  rest_judged c None f = go (eqb (length bodies) (total counts)) refl
     where
-      go : (t : Bool) → eqb (length bodies) (total counts) ≡ t → Judged CountRight Right counts bodies (cond t (broken_body counts bodies 0) (Refused Size))
+      go : (t : Bool) → eqb (length bodies) (total counts) ≡ t → Judged CountRight Right counts bodies (cond t (broken_body counts bodies 0) (Err Size))
       go true p = let w = eqb-true (length bodies) (total counts) p in with_bodies c f w (searched f w)
       go false p = size c f (eqb-false (length bodies) (total counts) p)
 
@@ -212,22 +208,22 @@ module _ (CountRight : Type 0) (Right : ℕ → Type 0) (counts bodies : List �
   unfolding bodies_check
   sized w = rw (eq-eqb (length bodies) (total counts) w)
 
-  called_for : {r : FileCheck} → Judged CountRight Right counts bodies r → gated t₁ t₂ t₃ (on_entry o (bodies_check counts bodies)) ≡ r
+  called_for : {r : Result (Unit {0}) Refusal} → Judged CountRight Right counts bodies r → gated t₁ t₂ t₃ (on_entry o (bodies_check counts bodies)) ≡ r
   unfolding bodies_check
   called_for (count n) = go t₁ t₂ t₃ refl refl refl
     where
-      go : (u₁ u₂ u₃ : Bool) → t₁ ≡ u₁ → t₂ ≡ u₂ → t₃ ≡ u₃ → gated u₁ u₂ u₃ (on_entry o (bodies_check counts bodies)) ≡ Refused Count
+      go : (u₁ u₂ u₃ : Bool) → t₁ ≡ u₁ → t₂ ≡ u₂ → t₃ ≡ u₃ → gated u₁ u₂ u₃ (on_entry o (bodies_check counts bodies)) ≡ Err Count
       go true true true p q r = absurd (n (counted p q r))
       go true true false p q r = refl
       go true false u₃ p q r = refl
       go false u₂ u₃ p q r = refl
-  called_for (entry {i} c h l b) = passed c (some i) (h, l, b)
-  called_for (size c a n) = passed c none a ∙ rw (ne_eqb (length bodies) (total counts) n)
-  called_for (body c a w h l p) = passed c none a ∙ sized w ∙ bodies_one (searched a w) (broken h l p)
-  called_for (sound c a w l) = passed c none a ∙ sized w ∙ bodies_one (searched a w) (unbroken l)
+  called_for (entry {i} c h l b) = passed c (Some i) (h, l, b)
+  called_for (size c a n) = passed c None a ∙ rw (ne_eqb (length bodies) (total counts) n)
+  called_for (body c a w h l p) = passed c None a ∙ sized w ∙ bodies_one (searched a w) (broken h l p)
+  called_for (sound c a w l) = passed c None a ∙ sized w ∙ bodies_one (searched a w) (unbroken l)
 
   -- an answer is given exactly when the rules call for it
-  pub judged_exactly : (r : FileCheck)
+  pub judged_exactly : (r : Result (Unit {0}) Refusal)
       → gated t₁ t₂ t₃ (on_entry o (bodies_check counts bodies)) ≡ r ↔ Judged CountRight Right counts bodies r
   judged_exactly r = (λ p. subst (Judged CountRight Right counts bodies) p judged, called_for)
 
@@ -237,13 +233,13 @@ module _ (names counts : List ℕ) where
   parts_from i = broken_entry (name_before names i) (drop (i * name_bytes) names) (drop i counts) i
 
   parts_turn : (i : ℕ) → i < length counts
-      → parts_from i ≡ cond (entry_kept (name_before names i) (name_of names i) (get_or counts i 0)) (parts_from (suc i)) (some i)
+      → parts_from i ≡ cond (entry_kept (name_before names i) (name_of names i) (get_or counts i 0)) (parts_from (suc i)) (Some i)
   unfolding parts_from broken_entry
   parts_turn i h =
       let next : i * name_bytes + name_bytes ≡ suc i * name_bytes = omega arith in
       rw (drop-cons counts i 0 h, drop-drop name_bytes (i * name_bytes) names, next, add-one i)
 
-  parts_end : parts_from (length counts) ≡ none
+  parts_end : parts_from (length counts) ≡ None
   unfolding parts_from broken_entry
   parts_end = rw (drop_of_length-le counts {i = length counts} (omega arith))
 
@@ -270,7 +266,7 @@ module _ (f : List ℕ) (c : FileCounted f) where
   contents_fault_from i = broken_content (name_before (names_of f) i) (contents_from f i) (get_or f 0 0 - i) (body_at (counts_of f) i) i
 
   contents_turn : (i : ℕ) → i < get_or f 0 0
-      → contents_fault_from i ≡ cond (content_kept (name_before (names_of f) i) (contents_from f i) (body_at (counts_of f) i)) (contents_fault_from (suc i)) (some i)
+      → contents_fault_from i ≡ cond (content_kept (name_before (names_of f) i) (contents_from f i) (body_at (counts_of f) i)) (contents_fault_from (suc i)) (Some i)
   unfolding contents_fault_from broken_content
   contents_turn i h =
       let next : contents_bytes * i + contents_bytes ≡ contents_bytes * suc i = omega arith in
@@ -286,7 +282,7 @@ module _ (f : List ℕ) (c : FileCounted f) where
         add-one i,
       )
 
-  contents_end : contents_fault_from (get_or f 0 0) ≡ none
+  contents_end : contents_fault_from (get_or f 0 0) ≡ None
   unfolding contents_fault_from broken_content
   contents_end = rw (left_zero (get_or f 0 0) (get_or f 0 0) (omega arith))
 

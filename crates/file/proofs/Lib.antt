@@ -5,6 +5,6 @@ pub mod Writes
 pub mod Finds
 pub mod Files
 pub mod Order
-pub mod Found
+pub mod Placed
 pub mod Judges
 pub mod Theorem

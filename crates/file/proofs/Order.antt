@@ -1,20 +1,20 @@
 -- Names that rise strictly in byte order are different, and a search finds each where it stands. Assumes nothing.
+use Rattle.std.specs.Prelude.{None, Some}
+use Rattle.std.proofs.lemmas.Slice.Eq.{bytes_eq-Decides}
+use Rattle.std.proofs.lemmas.Bool.Decides.{nat_tests}
 use Prim.Native.Nat.{ℕ, zero, suc, ◌+◌, ◌*◌, ◌<◌}
 use mathlib.Core.Path.{◌≡◌, refl, sym, ap, ◌∙◌}
 use mathlib.Core.Bool.{Bool, true, false, cond}
-use mathlib.Core.Logic.{◌⊎◌, inl, inr, ⊎_elim}
+use mathlib.Core.Logic.{◌⊎◌, ⊎_elim}
 use mathlib.Core.List.{List, [], ◌∷◌, ◌++◌}
-use mathlib.Core.Option.{none}
 use native.Mathlib.Decide.{dec_lt}
 use native.Mathlib.Omega.{arith}
-use lib.Dec.{ltb, eqb}
 use lib.ListN.{length, get_or, take, drop, length-drop}
 use lib.Seq.{length-take-le}
-use borrow.Author.Tests.{lt-ltb, le-ltb, eq-eqb, ltb-true, eqb-true}
 use Rattle.rules.proofs.Impossible.{impossible}
-use Rattle.file.specs.declared.Place.TheVariants.{At, Nowhere}
 use Rattle.file.specs.Contents.{below, body_bytes, name_bytes, name_of, contents, total}
 use Rattle.file.specs.Check.{broken_entry}
+use Rattle.file.specs.Place.{place_at}
 use Rattle.file.specs.Lookup.{same, seek}
 use Rattle.file.proofs.Checks.{entries_first, entry_kept_right}
 use Rattle.file.proofs.Files.{name_next, contents_cons, head_name, head_rest, head_count, head_offset}
@@ -22,20 +22,15 @@ use Rattle.file.proofs.Files.{name_next, contents_cons, head_name, head_rest, he
 -- byte order by the first bytes
 below_cases : (a b : ℕ) (l m : List ℕ) → below (a ∷ l) (b ∷ m) ≡ true → (a < b) ⊎ ((a ≡ b) × (below l m ≡ true))
 unfolding below
-below_cases a b l m p = go (ltb a b) (eqb a b) refl refl p
-  where
-    go : (t u : Bool) → ltb a b ≡ t → eqb a b ≡ u → cond t true (cond u (below l m) false) ≡ true → (a < b) ⊎ ((a ≡ b) × (below l m ≡ true))
-    go true u p q h = inl (ltb-true a b p)
-    go false true p q h = inr (eqb-true a b q, h)
-    go false false p q h = impossible cc
+below_cases a b l m p = grind (arith, nat_tests)
 
 below_first : (a b : ℕ) (l m : List ℕ) → a < b → below (a ∷ l) (b ∷ m) ≡ true
 unfolding below
-below_first a b l m h = rw (lt-ltb a b h)
+below_first a b l m h = grind (arith, nat_tests)
 
 below_next : (a b : ℕ) (l m : List ℕ) → a ≡ b → below l m ≡ true → below (a ∷ l) (b ∷ m) ≡ true
 unfolding below
-below_next a b l m e h = rw (le-ltb a b (omega arith), eq-eqb a b e) h
+below_next a b l m e h = grind (arith, nat_tests)
 
 pub below_trans : (l m n : List ℕ) → below l m ≡ true → below m n ≡ true → below l n ≡ true
 unfolding below
@@ -58,7 +53,7 @@ below_self [] p = impossible cc
 below_self (a ∷ l) p = ⊎_elim (λ h. omega arith) (λ h. below_self l h.1) (below_cases a a l l p)
 
 -- each name stands after the one before all, and after each lower one
-above : (before names counts : List ℕ) (k : ℕ) → broken_entry before names counts k ≡ none
+above : (before names counts : List ℕ) (k : ℕ) → broken_entry before names counts k ≡ None
     → (i : ℕ) → i < length counts → below before (name_of names i) ≡ true
 above before names [] k p i h = absurd (omega arith)
 above before names (n ∷ counts) k p zero h = (entry_kept_right before (take name_bytes names) n (entries_first before names n counts k p).0).rises
@@ -69,7 +64,7 @@ above before names (n ∷ counts) k p (suc i) h =
     (below_trans before name (name_of (drop name_bytes names) i) (entry_kept_right before name n first.0).rises
     (above name (drop name_bytes names) counts (k + 1) first.1 i (omega arith)))
 
-pub names_rise : (before names counts : List ℕ) (k : ℕ) → broken_entry before names counts k ≡ none
+pub names_rise : (before names counts : List ℕ) (k : ℕ) → broken_entry before names counts k ≡ None
     → (i j : ℕ) → i < j → j < length counts → below (name_of names i) (name_of names j) ≡ true
 names_rise before names [] k p i j h l = absurd (omega arith)
 names_rise before names (n ∷ counts) k p i zero h l = absurd (omega arith)
@@ -82,12 +77,12 @@ names_rise before names (n ∷ counts) k p (suc i) (suc j) h l =
     (omega arith))
 
 -- so names that are the same stand at one place
-pub names_differ : (names counts : List ℕ) → broken_entry [] names counts 0 ≡ none
+pub names_differ : (names counts : List ℕ) → broken_entry [] names counts 0 ≡ None
     → (i j : ℕ) → i < j → j < length counts → name_of names i ≡ name_of names j → ⊥
 names_differ names counts p i j h l e =
     below_self (name_of names j) (sym (ap (λ (x : List ℕ). below x (name_of names j)) e) ∙ names_rise [] names counts 0 p i j h l)
 
-pub name_once : (names counts : List ℕ) → broken_entry [] names counts 0 ≡ none
+pub name_once : (names counts : List ℕ) → broken_entry [] names counts 0 ≡ None
     → (i j : ℕ) → i < length counts → j < length counts → name_of names i ≡ name_of names j → i ≡ j
 name_once names counts p i j h l e = go (dec_lt i j) (dec_lt j i)
   where
@@ -98,23 +93,10 @@ name_once names counts p i j h l e = go (dec_lt i j) (dec_lt j i)
 
 -- the test of bytes is exact
 pub same_self : (l : List ℕ) → same l l ≡ true
-unfolding same
-same_self [] = refl
-same_self (a ∷ l) = rw (eq-eqb a a refl) (same_self l)
+same_self l = (bytes_eq-Decides l l).1 refl
 
 pub same_true : (l m : List ℕ) → same l m ≡ true → l ≡ m
-unfolding same
-same_true [] [] p = refl
-same_true [] (b ∷ m) p = impossible cc
-same_true (a ∷ l) [] p = impossible cc
-same_true (a ∷ l) (b ∷ m) p = go (eqb a b) refl p (same_true l m)
-  where
-    go : (t : Bool) → eqb a b ≡ t → cond t (same l m) false ≡ true → (same l m ≡ true → l ≡ m) → ◌≡◌ {A = List ℕ} (a ∷ l) (b ∷ m)
-    go true e p f =
-        let q : a ≡ b = eqb-true a b e in
-        let r : l ≡ m = f p in
-        cc
-    go false e p f = impossible cc
+same_true l m = (bytes_eq-Decides l m).0
 
 same_false : (l m : List ℕ) → (l ≡ m → ⊥) → same l m ≡ false
 same_false l m h = go (same l m) refl
@@ -127,7 +109,7 @@ same_false l m h = go (same l m) refl
 module _ (rest name : List ℕ) where
   seek_cons : (names : List ℕ) (n : ℕ) (counts : List ℕ) (offset : ℕ) → length names ≡ name_bytes * suc (length counts) → offset < 65536
       → seek (contents names (n ∷ counts) offset ++ rest) name (suc (length counts))
-      ≡ cond (same (take name_bytes names) name) (At offset (body_bytes n))
+      ≡ cond (same (take name_bytes names) name) (Some (place_at offset (body_bytes n)))
       (seek (contents (drop name_bytes names) counts (offset + body_bytes n) ++ rest) name (length counts))
   unfolding seek
   seek_cons names n counts offset h l =
@@ -143,7 +125,7 @@ module _ (rest name : List ℕ) where
       )
 
   pub seek_nowhere : (names counts : List ℕ) (offset : ℕ) → length names ≡ name_bytes * length counts → offset + total counts < 65536
-      → ((j : ℕ) → j < length counts → name_of names j ≡ name → ⊥) → seek (contents names counts offset ++ rest) name (length counts) ≡ Nowhere
+      → ((j : ℕ) → j < length counts → name_of names j ≡ name → ⊥) → seek (contents names counts offset ++ rest) name (length counts) ≡ None
   unfolding total
   seek_nowhere names [] offset h l f = unfold seek in refl
   seek_nowhere names (n ∷ counts) offset h l f =
@@ -155,17 +137,17 @@ module _ (rest name : List ℕ) where
   pub seek_there : (names counts : List ℕ) (offset i : ℕ) → length names ≡ name_bytes * length counts → offset + total counts < 65536
       → i < length counts
       → ((j : ℕ) → j < i → name_of names j ≡ name → ⊥) → name_of names i ≡ name
-      → seek (contents names counts offset ++ rest) name (length counts) ≡ At (offset + total (take i counts)) (body_bytes (get_or counts i 0))
+      → seek (contents names counts offset ++ rest) name (length counts) ≡ Some (place_at (offset + total (take i counts)) (body_bytes (get_or counts i 0)))
   unfolding total
   seek_there names [] offset i h l k f e = absurd (omega arith)
   seek_there names (n ∷ counts) offset zero h l k f e =
       let z : offset ≡ offset + 0 = omega arith in
       seek_cons names n counts offset h (omega arith)
-      ∙ rw (e, same_self name) (ap (λ (o : ℕ). At o (body_bytes n)) z)
+      ∙ rw (e, same_self name) (ap (λ (o : ℕ). Some (place_at o (body_bytes n))) z)
   seek_there names (n ∷ counts) offset (suc i) h l k f e =
       let z : offset + body_bytes n + total (take i counts) ≡ offset + (body_bytes n + total (take i counts)) = omega arith in
       seek_cons names n counts offset h (omega arith)
       ∙ rw (same_false (take name_bytes names) name (f 0 (omega arith)))
       (seek_there (drop name_bytes names) counts (offset + body_bytes n) i (omega (arith, length-drop name_bytes names)) (omega arith) (omega arith)
       (λ j b q. f (suc j) (omega arith) (name_next names j ∙ q)) (sym (name_next names i) ∙ e)
-      ∙ ap (λ (o : ℕ). At o (body_bytes (get_or counts i 0))) z)
+      ∙ ap (λ (o : ℕ). Some (place_at o (body_bytes (get_or counts i 0)))) z)

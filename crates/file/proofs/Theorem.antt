@@ -1,5 +1,6 @@
 -- The claims on pattern files: which files are accepted, what a lookup finds, that what was written is read back, and when each refusal is given.
 -- A file's parts are read from it, and its names rise strictly. Assumes nothing.
+use Rattle.std.specs.Prelude.{Err, None, Ok, Result, Some}
 use Prim.Native.Nat.{ℕ, ◌*◌, ◌<◌}
 use mathlib.Core.Logic.{◌↔◌}
 use mathlib.Core.Path.{◌≡◌, refl, sym, ap, ◌∙◌}
@@ -11,21 +12,19 @@ use lib.Seq.{drop-drop}
 use borrow.Author.Tests.{le-leb, eq-eqb, leb-true, eqb-true}
 use Rattle.rules.proofs.Impossible.{impossible}
 use Rattle.rules.specs.Limits.{most_patterns}
-use Rattle.refusal.specs.declared.Refusal.TheVariants.{Absent}
+use Rattle.refusal.specs.declared.Refusal.{Refusal}
 use Rattle.body.specs.Bytes.{value_at}
 use Rattle.body.specs.Entry.{entry_of, entry_at, entries_by, entries}
 use Rattle.body.specs.Check.{depth_of, scan}
-use Rattle.file.specs.declared.FileCheck.{FileCheck}
-use Rattle.file.specs.declared.FileCheck.TheVariants.{Sound}
 use Rattle.file.specs.declared.Whose.TheVariants.{Site, Fleet}
-use Rattle.file.specs.declared.Place.TheVariants.{At, Nowhere}
-use Rattle.file.specs.declared.Finding.{Finding}
-use Rattle.file.specs.declared.Finding.TheVariants.{Refused}
+use Rattle.file.specs.declared.Found.{Found}
+use Rattle.file.specs.declared.LookupError.{LookupError}
+use Rattle.file.specs.declared.LookupError.TheVariants.{Absent}
 use Rattle.file.specs.Contents.{name_byte, spaces, padded, named, below, body_bytes, name_bytes, contents_bytes, bodies_at}
 use Rattle.file.specs.Contents.{name_of, file_of, total, body_at, body_of}
 use Rattle.file.specs.Check.{entry_kept, broken_entry, broken_body, bodies_check, parts_check, counts_in, content_kept, broken_content, rest_check, file_check}
 use Rattle.file.specs.Write.{writing_of}
-use Rattle.file.specs.Place.{place_in, pattern_count, body_place}
+use Rattle.file.specs.Place.{place_at, place_in, pattern_count, body_place}
 use Rattle.file.specs.Lookup.{placed, finding_of, part_of}
 use Rattle.file.specs.Claim.{PartsOf, AcceptedExactly, OneWay, BodiesPlaced, OneName, WrittenAccepted, FoundBody, FoundWithin, FoundNamed}
 use Rattle.file.specs.Claim.{Lacks, FoundInSite, FoundInFleet, AbsentFromBoth, BrokenExactly}
@@ -37,13 +36,13 @@ use Rattle.file.proofs.Writes.{wrote_parts, refused_by}
 use Rattle.file.proofs.Files.{near, bodies_after, rest_made, place_there, written_sound, accepted_parts, parts_read}
 use Rattle.file.proofs.Order.{names_differ, name_once, seek_nowhere, seek_there}
 use Rattle.file.proofs.Finds.{body_here, finding_site_broken, finding_fleet_broken, finding_by}
-use Rattle.file.proofs.Found.{finding_found, broken_by}
+use Rattle.file.proofs.Placed.{finding_found, broken_by}
 use Rattle.file.proofs.Judges.{judged_exactly, parts_found, contents_found}
 
 pub written_accepted : WrittenAccepted
 written_accepted = written_sound
 
-parts_accepted : (f names counts bodies : List ℕ) → PartsOf f names counts bodies → file_check f ≡ Sound
+parts_accepted : (f names counts bodies : List ℕ) → PartsOf f names counts bodies → file_check f ≡ Ok tt
 parts_accepted f names counts bodies k = ap file_check k.same ∙ written_sound names counts bodies k.sound
 
 pub accepted_exactly : AcceptedExactly
@@ -59,26 +58,26 @@ pub one_name : OneName
 one_name names counts bodies p = name_once names counts (parts_sound names counts bodies p).kept
 
 pub found_body : FoundBody
-found_body site fleet name whose from long p = (finding_found site fleet name whose from long p).valid
+found_body site fleet name found p = (finding_found site fleet name found p).valid
 
 pub found_within : FoundWithin
-found_within site fleet name whose from long p = (finding_found site fleet name whose from long p).within
+found_within site fleet name found p = (finding_found site fleet name found p).within
 
 pub found_named : FoundNamed
-found_named site fleet name whose from long p =
-    let b = finding_found site fleet name whose from long p in
+found_named site fleet name found p =
+    let b = finding_found site fleet name found p in
     (b.counted, b.well)
 
 -- where a search in a file finds a name, by the file's parts
 module _ (f names counts bodies : List ℕ) (k : PartsOf f names counts bodies) where
-  placed_there : (i : ℕ) → i < length counts → placed f (name_of names i) ≡ At (body_at counts i) (body_bytes (get_or counts i 0))
+  placed_there : (i : ℕ) → i < length counts → placed f (name_of names i) ≡ Some (place_at (body_at counts i) (body_bytes (get_or counts i 0)))
   placed_there i h =
       let s = parts_sound names counts bodies k.sound in
       ap (λ (g : List ℕ). placed g (name_of names i)) k.same
       ∙ seek_there bodies (name_of names i) names counts (bodies_at (length counts)) i s.full (near names counts bodies s) h
       (λ j l e. names_differ names counts s.kept j i l h e) refl
 
-  placed_nowhere : (name : List ℕ) → Lacks names counts name → placed f name ≡ Nowhere
+  placed_nowhere : (name : List ℕ) → Lacks names counts name → placed f name ≡ None
   placed_nowhere name l =
       let s = parts_sound names counts bodies k.sound in
       ap (λ (g : List ℕ). placed g name) k.same
@@ -95,7 +94,7 @@ found_in_fleet site fleet names counts bodies names' counts' bodies' k k' i h l 
 
 -- if a name is refused as Absent, both files lack it
 module _ (site fleet name names counts bodies names' counts' bodies' : List ℕ) (k : PartsOf site names counts bodies)
-    (k' : PartsOf fleet names' counts' bodies') (p : finding_of site fleet name ≡ Refused Absent) where
+    (k' : PartsOf fleet names' counts' bodies') (p : finding_of site fleet name ≡ Err Absent) where
   site_lacks : Lacks names counts name
   site_lacks j h e =
       let f = found_in_site site fleet names counts bodies k (parts_accepted fleet names' counts' bodies' k') j h in
@@ -144,21 +143,21 @@ body_part f names counts bodies k i =
 pub bodies_placed : BodiesPlaced
 bodies_placed f names counts bodies k = (ap pattern_count k.same, λ i h. (placed_at i h, body_part f names counts bodies k i))
   where
-    placed_at : (i : ℕ) → i < length counts → body_place f i ≡ At (body_at counts i) (body_bytes (get_or counts i 0))
+    placed_at : (i : ℕ) → i < length counts → body_place f i ≡ Some (place_at (body_at counts i) (body_bytes (get_or counts i 0)))
     placed_at i h =
         let s = parts_sound names counts bodies k.sound in
         let file : List ℕ = file_of names counts bodies in
         ap (λ (g : List ℕ). body_place g i) k.same
         ∙ sym (body_here file i h (omega (arith, (rest_made names counts bodies s).held)))
-        ∙ ap place_in (sym (drop-drop (contents_bytes * i) 1 file))
-        ∙ place_there bodies names counts (bodies_at (length counts)) i s.full (near names counts bodies s) h
+        ∙ ap Some (ap place_in (sym (drop-drop (contents_bytes * i) 1 file))
+        ∙ place_there bodies names counts (bodies_at (length counts)) i s.full (near names counts bodies s) h)
 
 parts_read_back : (f names counts bodies : List ℕ) → PartsOf f names counts bodies → ReadsBack f names counts bodies
 parts_read_back f names counts bodies k = record {
   in_site = λ fleet i q h.
-      ap (λ (a : Finding). part_of a f fleet) (found_in_site f fleet names counts bodies k q i h) ∙ body_part f names counts bodies k i;
+      ap (λ (a : Result Found LookupError). part_of a f fleet) (found_in_site f fleet names counts bodies k q i h) ∙ body_part f names counts bodies k i;
   in_fleet = λ site names' counts' bodies' i k' h l.
-      ap (λ (a : Finding). part_of a site f) (found_in_fleet site f names' counts' bodies' names counts bodies k' k i h l)
+      ap (λ (a : Result Found LookupError). part_of a site f) (found_in_fleet site f names' counts' bodies' names counts bodies k' k i h l)
       ∙ body_part f names counts bodies k i;
 }
 
@@ -188,7 +187,7 @@ parts_judged names counts bodies =
     (λ c. parts_found names counts)
     (λ i k. (k.least, k.most))
 
-rest_judged : (f : List ℕ) (r : FileCheck)
+rest_judged : (f : List ℕ) (r : Result (Unit {0}) Refusal)
     → rest_check (get_or f 0 0) (drop 1 f) ≡ r ↔ Judged (FileCounted f) (ContentRight f) (counts_of f) (bodies_of f) r
 unfolding rest_check
 rest_judged f =

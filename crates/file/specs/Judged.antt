@@ -1,14 +1,12 @@
 -- The table of a file's refusals (docs/RULES.md, "Refusals"): which answer the rules of "Pattern files" call for, for a file and for the parts given to
 -- the writer. Assumes nothing: these are definitions.
-use Rattle.std.specs.Prelude.{ℕ, zero, suc, ◌*◌, ◌≤◌, ◌<◌, ◌≡◌, true, List, [], length, get_or, drop}
+use Rattle.std.specs.Prelude.{ℕ, zero, suc, ◌*◌, ◌≤◌, ◌<◌, ◌≡◌, true, List, [], length, get_or, drop, Err, Ok, Result}
 use Rattle.rules.specs.Limits.{argument_bytes, most_entries, most_patterns}
+use Rattle.refusal.specs.declared.Refusal.{Refusal}
 use Rattle.refusal.specs.declared.Refusal.TheVariants.{Count, Entry, Size}
 use Rattle.refusal.specs.Table.{broken_at}
-use Rattle.body.specs.declared.BodyCheck.TheVariants as Bodies
 use Rattle.body.specs.Bytes.{value_at}
 use Rattle.body.specs.Check.{check_of as body_check}
-use Rattle.file.specs.declared.FileCheck.{FileCheck}
-use Rattle.file.specs.declared.FileCheck.TheVariants.{Sound, Refused}
 use Rattle.file.specs.Contents.{named, below, contents_bytes, bodies_at, name_of, body_at, body_of}
 use Rattle.file.specs.Check.{names_in, counts_in}
 use Rattle.file.specs.Ready.{Named, Whole}
@@ -19,19 +17,19 @@ AllBelow n Right = (i : ℕ) → i < n → Right i
 
 -- body number b keeps its rules: the check of a lone body accepts it
 abbrev pub BodyRight : List ℕ → List ℕ → ℕ → Type 0
-BodyRight counts bodies b = body_check argument_bytes (body_of counts bodies b) ≡ Bodies.Sound
+BodyRight counts bodies b = body_check argument_bytes (body_of counts bodies b) ≡ Ok tt
 
 -- which answer is called for, where Counted is the rule on the number of patterns and Right the rule on each entry of the contents:
 -- Count if Counted fails; else Entry with the lowest entry that breaks its rule; else Size if the bodies end elsewhere; else Body with the lowest body
 -- that breaks its rules, and the entry at which the check of a lone body refuses it, its lowest (crates/body, `RefusedLowest`); else the file is sound
-pub data Judged (Counted : Type 0) (Right : ℕ → Type 0) (counts bodies : List ℕ) : FileCheck → Type 0 where
-  count : (Counted → ⊥) → Judged Counted Right counts bodies (Refused Count)
-  entry : {i : ℕ} → Counted → i < length counts → AllBelow i Right → (Right i → ⊥) → Judged Counted Right counts bodies (Refused (Entry i))
-  size : Counted → AllBelow (length counts) Right → (Whole counts bodies → ⊥) → Judged Counted Right counts bodies (Refused Size)
+pub data Judged (Counted : Type 0) (Right : ℕ → Type 0) (counts bodies : List ℕ) : Result (Unit {0}) Refusal → Type 0 where
+  count : (Counted → ⊥) → Judged Counted Right counts bodies (Err Count)
+  entry : {i : ℕ} → Counted → i < length counts → AllBelow i Right → (Right i → ⊥) → Judged Counted Right counts bodies (Err (Entry i))
+  size : Counted → AllBelow (length counts) Right → (Whole counts bodies → ⊥) → Judged Counted Right counts bodies (Err Size)
   body : {b e : ℕ} → Counted → AllBelow (length counts) Right → Whole counts bodies → b < length counts → AllBelow b (BodyRight counts bodies)
-      → body_check argument_bytes (body_of counts bodies b) ≡ Bodies.Refused (broken_at 0 e) → Judged Counted Right counts bodies (Refused (broken_at b e))
+      → body_check argument_bytes (body_of counts bodies b) ≡ Err (broken_at 0 e) → Judged Counted Right counts bodies (Err (broken_at b e))
   sound : Counted → AllBelow (length counts) Right → Whole counts bodies → AllBelow (length counts) (BodyRight counts bodies)
-      → Judged Counted Right counts bodies Sound
+      → Judged Counted Right counts bodies (Ok tt)
 
 -- the writer is given 1 to 16 patterns, and a name for each
 pub record PartsCounted (names counts : List ℕ) : Type 0 where

@@ -13,7 +13,9 @@ use Rattle.rules.specs.Bits.{bit}
 use Rattle.rules.proofs.Bits.{bit_lt, bit_low, bit_high}
 use Rattle.text.specs.Render.{letter_byte}
 use Rattle.text.specs.Characters.{letter_of}
-use Rattle.decimal.proofs.Branches.{either_way, either_is}
+use Rattle.decimal.proofs.Branches.{either_way, either_is, by_option}
+use Rattle.std.specs.Prelude.{Some, None}
+use Rattle.std.proofs.lemmas.Option.{none-some, same_Some}
 use Rattle.text.proofs.Bytes.{letter_of_byte, byte_letter}
 use Rattle.line.specs.Lines.{letter_if, letters_from, letters_of}
 use Rattle.line.specs.inner.Scan.{word_from, word_of}
@@ -25,23 +27,30 @@ letter_off : (w n : ℕ) → bit w n ≡ 0 → letter_if w n ≡ []
 letter_off w n b = simp (ne_eqb (bit w n) 1 (λ e. omega arith))
 
 module _ (c : ℕ) (s : List ℕ) (n w : ℕ) where
-  pub word_more : n ≤ letter_of c → letter_of c < letters → word_from n w (c ∷ s) ≡ word_from (letter_of c + 1) (w + 2 ^ letter_of c) s
+  pub word_more : (k : ℕ) → letter_of c ≡ Some k → n ≤ k → word_from n w (c ∷ s) ≡ word_from (k + 1) (w + 2 ^ k) s
   unfolding word_from
-  word_more l h = simp (le-ltb (letter_of c) n l, lt-ltb (letter_of c) letters h)
+  word_more k q l = simp (q, le-ltb k n l)
 
   -- a letter out of order, or given twice
-  pub word_low : letter_of c < n → word_from n w (c ∷ s) ≡ 0
+  pub word_low : (k : ℕ) → letter_of c ≡ Some k → k < n → word_from n w (c ∷ s) ≡ None
   unfolding word_from
-  word_low h = simp (lt-ltb (letter_of c) n h)
+  word_low k q h = simp (q, lt-ltb k n h)
 
-  pub word_other : n ≤ letter_of c → letters ≤ letter_of c → word_from n w (c ∷ s) ≡ 0
+  pub word_other : letter_of c ≡ None → word_from n w (c ∷ s) ≡ None
   unfolding word_from
-  word_other l h = simp (le-ltb (letter_of c) n l, le-ltb (letter_of c) letters h)
+  word_other q = simp q
+
+module _ (n w : ℕ) where
+  pub word_empty : w ≡ 0 → word_from n w [] ≡ None
+  unfolding word_from
+  word_empty z = simp (eq-eqb w 0 z)
+
+  pub word_done : 0 < w → word_from n w [] ≡ Some w
+  unfolding word_from
+  word_done p = simp (ne_eqb w 0 (λ e. omega arith))
 
 word_letter : (k : ℕ) (s : List ℕ) (n w : ℕ) → n ≤ k → k < letters → word_from n w (letter_byte k ∷ s) ≡ word_from (k + 1) (w + 2 ^ k) s
-word_letter k s n w l h =
-    let e : letter_of (letter_byte k) ≡ k = letter_of_byte k h in
-    word_more (letter_byte k) s n w (omega arith) (omega arith) ∙ ap (λ (i : ℕ). word_from (i + 1) (w + 2 ^ i) s) e
+word_letter k s n w l h = word_more (letter_byte k) s n w k (letter_of_byte k h) l
 
 -- a word's low part takes in one bit more
 low_next : (v n : ℕ) → v % 2 ^ (n + 1) ≡ bit v n * 2 ^ n + v % 2 ^ n
@@ -55,24 +64,26 @@ low_off : (v n : ℕ) → bit v n ≡ 0 → v % 2 ^ n ≡ v % 2 ^ (n + 1)
 low_off v n b = omega (arith, low_next v n ∙ ap (λ (k : ℕ). k * 2 ^ n + v % 2 ^ n) b)
 
 -- the letters from type n on are read to the word, where the types before n have been
-word_of_letters : (types n m v : ℕ) → n + types ≡ letters → m ≤ n → v < 2 ^ letters → word_from m (v % 2 ^ n) (letters_from types n v) ≡ v
-unfolding word_from letters_from
-word_of_letters zero n m v e l h = let q : n ≡ letters = omega arith in ap (λ (k : ℕ). v % 2 ^ k) q ∙ mod-eq_of_lt h
-word_of_letters (suc types) n m v e l h =
+word_of_letters : (types n m v : ℕ) → n + types ≡ letters → m ≤ n → v < 2 ^ letters → 0 < v → word_from m (v % 2 ^ n) (letters_from types n v) ≡ Some v
+unfolding letters_from
+word_of_letters zero n m v e l h p =
+    let q : n ≡ letters = omega arith in
+    ap (λ (k : ℕ). word_from m (v % 2 ^ k) []) q ∙ ap (λ (x : ℕ). word_from m x []) (mod-eq_of_lt h) ∙ word_done m v p
+word_of_letters (suc types) n m v e l h p =
     either_is (bit v n) 1
     (λ b. ap (λ (x : List ℕ). word_from m (v % 2 ^ n) (x ++ letters_from types (n + 1) v)) (letter_on v n b)
     ∙ word_letter n (letters_from types (n + 1) v) m (v % 2 ^ n) l (omega arith)
     ∙ ap (λ (w : ℕ). word_from (n + 1) w (letters_from types (n + 1) v)) (low_on v n b)
-    ∙ word_of_letters types (n + 1) (n + 1) v (omega arith) (omega arith) h)
+    ∙ word_of_letters types (n + 1) (n + 1) v (omega arith) (omega arith) h p)
     (λ b. let z : bit v n ≡ 0 = omega (arith, bit_lt v n) in
     ap (λ (x : List ℕ). word_from m (v % 2 ^ n) (x ++ letters_from types (n + 1) v)) (letter_off v n z)
     ∙ ap (λ (w : ℕ). word_from m w (letters_from types (n + 1) v)) (low_off v n z)
-    ∙ word_of_letters types (n + 1) m v (omega arith) (omega arith) h)
+    ∙ word_of_letters types (n + 1) m v (omega arith) (omega arith) h p)
 
-pub word_letters : (w : ℕ) → w < 2 ^ letters → word_of (letters_of w) ≡ w
-word_letters w h =
+pub word_letters : (w : ℕ) → 0 < w → w < 2 ^ letters → word_of (letters_of w) ≡ Some w
+word_letters w p h =
     let z : 0 ≡ w % 2 ^ 0 = omega arith in
-    ap (λ (x : ℕ). word_from 0 x (letters_of w)) z ∙ word_of_letters letters 0 0 w (omega arith) (omega arith) h
+    ap (λ (x : ℕ). word_from 0 x (letters_of w)) z ∙ word_of_letters letters 0 0 w (omega arith) (omega arith) h p
 
 -- types that do not occur are passed over
 letters_skip : (gap types from n to v : ℕ) → from ≡ gap + types → to ≡ n + gap → ((i : ℕ) → n ≤ i → i < to → bit v i ≡ 0)
@@ -101,19 +112,24 @@ pub record Suffix (s : List ℕ) (n w v : ℕ) : Type 0 where
   pub same : s ≡ letters_from (letters - n) n v
   pub fits : v < 2 ^ letters
   pub low : v % 2 ^ n ≡ w
+  pub some : 0 < v
 
-suffix_end : (n w v : ℕ) → w ≡ v → w < 2 ^ n → n ≤ letters → Suffix [] n w v
-suffix_end n w v e h l = record {
+suffix_end : (n w v : ℕ) → w ≡ v → 0 < w → w < 2 ^ n → n ≤ letters → Suffix [] n w v
+suffix_end n w v e p h l = record {
   same = sym (letters_none (letters - n) n v (omega arith));
   fits = omega (arith, pow_mono l);
   low = mod-eq_of_lt (omega arith) ∙ sym e;
+  some = omega arith;
 }
 
-suffix_more : (c : ℕ) (s : List ℕ) (k n w v : ℕ) → k ≡ letter_of c → n ≤ k → k < letters → w < 2 ^ n
+suffix_more : (c : ℕ) (s : List ℕ) (k n w v : ℕ) → letter_of c ≡ Some k → n ≤ k → w < 2 ^ n
     → Suffix s (k + 1) (w + 2 ^ k) v → Suffix (c ∷ s) n w v
 unfolding letters_from
-suffix_more c s k n w v q l h lt f = record { same = whole; fits = f.fits; low = below }
+suffix_more c s k n w v q l lt f = record { same = whole; fits = f.fits; low = below; some = f.some }
   where
+    byte : (k < letters) × (letter_byte k ≡ c)
+    byte = byte_letter c k q
+
     set : (bit v k ≡ 1) × (v % 2 ^ k ≡ w)
     set = low_set v k w (lt_of_lt_of_le lt (pow_mono l)) f.low
 
@@ -123,13 +139,10 @@ suffix_more c s k n w v q l h lt f = record { same = whole; fits = f.fits; low =
     here : letters_from (suc (letters - (k + 1))) k v ≡ letter_byte k ∷ letters_from (letters - (k + 1)) (k + 1) v
     here = ap (λ (x : List ℕ). x ++ letters_from (letters - (k + 1)) (k + 1) v) (letter_on v k set.0)
 
-    letter : letter_byte k ≡ c
-    letter = ap letter_byte q ∙ byte_letter c (omega arith)
-
     whole : c ∷ s ≡ letters_from (letters - n) n v
     whole =
-        ap₂ (λ (x : ℕ) (y : List ℕ). x ∷ y) (sym letter) f.same ∙ sym here
-        ∙ sym (letters_skip (k - n) (suc (letters - (k + 1))) (letters - n) n k v (omega arith) (omega arith) off)
+        ap₂ (λ (x : ℕ) (y : List ℕ). x ∷ y) (sym byte.1) f.same ∙ sym here
+        ∙ sym (letters_skip (k - n) (suc (letters - (k + 1))) (letters - n) n k v (omega (arith, byte.0)) (omega arith) off)
 
     below : v % 2 ^ n ≡ w
     below =
@@ -151,18 +164,21 @@ word_sum n k w l h lt =
     omega (arith, bit_shifted k h, word_fits n k w l lt, pow_mono top)
 
 -- what was read is the word's letters
-word_sound : (s : List ℕ) (n w v : ℕ) → word_from n w s ≡ v → 0 < v → w < 2 ^ n → n ≤ letters → Suffix s n w v
-unfolding word_from
-word_sound [] n w v e p h l = suffix_end n w v e h l
-word_sound (c ∷ s) n w v e p h l =
-    either_way (letter_of c) n (λ a. absurd (omega (arith, word_low c s n w a)))
-    (λ a. either_way (letter_of c) letters
-    (λ b. suffix_more c s (letter_of c) n w v refl a b h
-    (word_sound s (letter_of c + 1) (w + 2 ^ letter_of c) v (sym (word_more c s n w a b) ∙ e) p (word_fits n (letter_of c) w a h) (omega arith)))
-    (λ b. absurd (omega (arith, word_other c s n w a b))))
+word_sound : (s : List ℕ) (n w v : ℕ) → word_from n w s ≡ Some v → w < 2 ^ n → n ≤ letters → Suffix s n w v
+word_sound [] n w v e h l =
+    either_way 0 w
+    (λ p. suffix_end n w v (same_Some _ _ (sym (word_done n w p) ∙ e)) p h l)
+    (λ p. absurd (none-some v (sym (word_empty n w (omega arith)) ∙ e)))
+word_sound (c ∷ s) n w v e h l =
+    by_option (λ o. Suffix (c ∷ s) n w v) (letter_of c)
+    (λ k q. either_way k n
+    (λ a. absurd (none-some v (sym (word_low c s n w k q a) ∙ e)))
+    (λ a. suffix_more c s k n w v q a h
+    (word_sound s (k + 1) (w + 2 ^ k) v (sym (word_more c s n w k q a) ∙ e) (word_fits n k w a h) (omega (arith, byte_letter c k q)))))
+    (λ q. absurd (none-some v (sym (word_other c s n w q) ∙ e)))
 
-pub letters_word : (s : List ℕ) (w : ℕ) → word_of s ≡ w → 0 < w → (s ≡ letters_of w) × (w < 2 ^ letters)
-letters_word s w e p = let f = word_sound s 0 0 w e p (omega arith) (omega arith) in (f.same, f.fits)
+pub letters_word : (s : List ℕ) (w : ℕ) → word_of s ≡ Some w → (s ≡ letters_of w) × (w < 2 ^ letters) × (0 < w)
+letters_word s w e = let f = word_sound s 0 0 w e (omega arith) (omega arith) in (f.same, f.fits, f.some)
 
 -- there are at most as many letters as types
 pub letters_length : (types n w : ℕ) → length (letters_from types n w) ≤ types

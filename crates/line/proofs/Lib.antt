@@ -4,7 +4,6 @@ pub mod Letters
 pub mod Parses
 pub mod Readings
 -- writing
-pub mod Backwards
 pub mod Writings
 -- the theorems
 pub mod Theorem

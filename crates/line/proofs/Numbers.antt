@@ -1,95 +1,93 @@
 -- The number at the front of a line, both ways: what is written is read, and what is read was written. Assumes nothing.
-use mathlib.Core.Path.{◌≡◌, refl, sym, ap, ap₂, ◌∙◌}
-use Prim.Native.Nat.{ℕ, zero, suc, ◌+◌, ◌*◌, ◌/◌, ◌%◌, ◌<◌, ◌≤◌}
+use mathlib.Core.Path.{◌≡◌, refl, sym, ap, ◌∙◌}
+use Prim.Native.Nat.{ℕ, zero, suc, ◌+◌, ◌*◌, ◌/◌, ◌%◌, ◌<◌}
 use native.Mathlib.Omega.{arith}
 use mathlib.Core.List.{List, [], ◌∷◌, ◌++◌}
 use lib.Seq.{append_snoc}
-use borrow.Author.Tests.{lt-ltb, le-ltb, eq-eqb, ne_eqb}
-use Rattle.rules.proofs.Impossible.{impossible}
+use borrow.Author.Tests.{lt-ltb, le-ltb, ne_eqb}
 use Rattle.decimal.specs.Decimal.{digits_in}
 use Rattle.text.specs.Characters.{digit_of}
-use Rattle.decimal.proofs.Branches.{either_way, either_is}
+use Rattle.decimal.proofs.Branches.{either_way, either_is, by_option}
+use Rattle.std.specs.Prelude.{Some, None}
+use Rattle.std.proofs.lemmas.Option.{none-some, same_Some}
 use Rattle.text.proofs.Bytes.{digit_byte, byte_digit}
 use Rattle.decimal.specs.Decimal.{decimal}
 use Rattle.line.specs.inner.Scan.{front_of, grow}
-use Rattle.line.specs.inner.Scan.Front.{none, number}
 use Rattle.decimal.proofs.Decimals.{decimal_one, decimal_next}
 
 module _ (c : ℕ) (s : List ℕ) where
-  pub grow_digit : (v : ℕ) → digit_of c < 10 → grow v (c ∷ s) ≡ grow (v * 10 + digit_of c) s
+  pub grow_digit : (v d : ℕ) → digit_of c ≡ Some d → grow v (c ∷ s) ≡ grow (v * 10 + d) s
   unfolding grow
-  grow_digit v h = simp (lt-ltb (digit_of c) 10 h)
+  grow_digit v d q = simp q
 
-  pub grow_other : (v : ℕ) → 10 ≤ digit_of c → grow v (c ∷ s) ≡ number v (c ∷ s)
+  pub grow_other : (v : ℕ) → digit_of c ≡ None → grow v (c ∷ s) ≡ (v, c ∷ s)
   unfolding grow
-  grow_other v h = simp (le-ltb (digit_of c) 10 h)
+  grow_other v q = simp q
 
-  pub front_other : 10 ≤ digit_of c → front_of (c ∷ s) ≡ none
+  pub front_other : digit_of c ≡ None → front_of (c ∷ s) ≡ None
   unfolding front_of
-  front_other h = simp (le-ltb (digit_of c) 10 h)
+  front_other q = simp q
 
-  pub front_zero : digit_of c ≡ 0 → front_of (c ∷ s) ≡ number 0 s
+  pub front_zero : digit_of c ≡ Some 0 → front_of (c ∷ s) ≡ Some (0, s)
   unfolding front_of
-  front_zero h = simp (lt-ltb (digit_of c) 10 (omega arith), eq-eqb (digit_of c) 0 h)
+  front_zero q = simp q
 
-  pub front_grow : digit_of c < 10 → 0 < digit_of c → front_of (c ∷ s) ≡ grow (digit_of c) s
+  pub front_grow : (d : ℕ) → digit_of c ≡ Some d → 0 < d → front_of (c ∷ s) ≡ Some (grow d s)
   unfolding front_of
-  front_grow h p = simp (lt-ltb (digit_of c) 10 h, ne_eqb (digit_of c) 0 (λ e. omega arith))
+  front_grow d q p = simp (q, ne_eqb d 0 (λ e. omega arith))
 
 grow_byte : (v d : ℕ) (s : List ℕ) → d < 10 → grow v ((d + 48) ∷ s) ≡ grow (v * 10 + d) s
-grow_byte v d s h =
-    grow_digit (d + 48) s v (omega (arith, digit_byte d h)) ∙ ap (λ (e : ℕ). grow (v * 10 + e) s) (digit_byte d h)
+grow_byte v d s h = grow_digit (d + 48) s v d (digit_byte d h)
 
 -- the digits of a number are read to it
-front_digits : (k n : ℕ) (s : List ℕ) → 0 < n → n < k → front_of (digits_in k n ++ s) ≡ grow n s
+front_digits : (k n : ℕ) (s : List ℕ) → 0 < n → n < k → front_of (digits_in k n ++ s) ≡ Some (grow n s)
 unfolding digits_in
 front_digits zero n s p h = absurd (omega arith)
 front_digits (suc k) n s p h =
     either_way n 10
-    (λ l. simp (lt-ltb n 10 l)
-    (front_grow (n + 48) s (omega (arith, digit_byte n l)) (omega (arith, digit_byte n l)) ∙ ap (λ (v : ℕ). grow v s) (digit_byte n l)))
+    (λ l. simp (lt-ltb n 10 l) (front_grow (n + 48) s n (digit_byte n l) p))
     (λ l. simp (le-ltb n 10 l)
     (ap front_of (append_snoc (digits_in k (n / 10)) (n % 10 + 48) s)
     ∙ front_digits k (n / 10) ((n % 10 + 48) ∷ s) (omega arith) (omega arith)
-    ∙ grow_byte (n / 10) (n % 10) s (omega arith)
-    ∙ ap (λ (v : ℕ). grow v s) (omega arith)))
+    ∙ ap Some (grow_byte (n / 10) (n % 10) s (omega arith))
+    ∙ ap (λ (v : ℕ). Some (grow v s)) (omega arith)))
 
-grow_space : (v : ℕ) (s : List ℕ) → grow v (32 ∷ s) ≡ number v (32 ∷ s)
+grow_space : (v : ℕ) (s : List ℕ) → grow v (32 ∷ s) ≡ (v, 32 ∷ s)
 unfolding grow digit_of
 grow_space v s = refl
 
 -- a number and a space
-pub front_decimal : (t : ℕ) (s : List ℕ) → front_of (decimal t ++ (32 ∷ s)) ≡ number t (32 ∷ s)
+pub front_decimal : (t : ℕ) (s : List ℕ) → front_of (decimal t ++ (32 ∷ s)) ≡ Some (t, 32 ∷ s)
 unfolding decimal digits_in front_of digit_of
 front_decimal zero s = refl
-front_decimal (suc t) s = front_digits (suc (suc t)) (suc t) (32 ∷ s) (omega arith) (omega arith) ∙ grow_space (suc t) s
+front_decimal (suc t) s = front_digits (suc (suc t)) (suc t) (32 ∷ s) (omega arith) (omega arith) ∙ ap Some (grow_space (suc t) s)
 
 -- what was read is the number's digits
-grow_sound : (v : ℕ) (s : List ℕ) (n : ℕ) (r : List ℕ) → 0 < v → grow v s ≡ number n r → decimal v ++ s ≡ decimal n ++ r
+same_parts : {v n : ℕ} {s r : List ℕ} → ◌≡◌ {A = ℕ × List ℕ} (v, s) (n, r) → decimal v ++ s ≡ decimal n ++ r
+same_parts e = ap (λ (p : ℕ × List ℕ). decimal p.0 ++ p.1) e
+
+grow_sound : (v : ℕ) (s : List ℕ) (n : ℕ) (r : List ℕ) → 0 < v → grow v s ≡ (n, r) → decimal v ++ s ≡ decimal n ++ r
 unfolding grow
-grow_sound v [] n r p e = let a : v ≡ n = cc in let b : [] ≡ r = cc in ap₂ (λ (x : ℕ) (y : List ℕ). decimal x ++ y) a b
+grow_sound v [] n r p e = same_parts e
 grow_sound v (c ∷ s) n r p e =
-    either_way (digit_of c) 10
-    (λ l. sym (append_snoc (decimal v) c s)
-    ∙ ap (λ (x : ℕ). (decimal v ++ (x ∷ [])) ++ s) (sym (byte_digit c l))
-    ∙ ap (λ (w : List ℕ). w ++ s) (sym (decimal_next v (digit_of c) p l))
-    ∙ grow_sound (v * 10 + digit_of c) s n r (omega arith) (sym (grow_digit c s v l) ∙ e))
-    (λ l. let q : number v (c ∷ s) ≡ number n r = sym (grow_other c s v l) ∙ e in
-    let a : v ≡ n = cc in let b : c ∷ s ≡ r = cc in ap₂ (λ (x : ℕ) (y : List ℕ). decimal x ++ y) a b)
+    by_option (λ o. decimal v ++ (c ∷ s) ≡ decimal n ++ r) (digit_of c)
+    (λ d q. let h = byte_digit c d q in
+    sym (append_snoc (decimal v) c s)
+    ∙ ap (λ (x : ℕ). (decimal v ++ (x ∷ [])) ++ s) (sym h.1)
+    ∙ ap (λ (w : List ℕ). w ++ s) (sym (decimal_next v d p h.0))
+    ∙ grow_sound (v * 10 + d) s n r (omega arith) (sym (grow_digit c s v d q) ∙ e))
+    (λ q. same_parts (sym (grow_other c s v q) ∙ e))
 
-pub front_sound : (s : List ℕ) (n : ℕ) (r : List ℕ) → front_of s ≡ number n r → s ≡ decimal n ++ r
+pub front_sound : (s : List ℕ) (n : ℕ) (r : List ℕ) → front_of s ≡ Some (n, r) → s ≡ decimal n ++ r
 unfolding front_of
-front_sound [] n r e = impossible cc
+front_sound [] n r e = absurd (none-some _ e)
 front_sound (c ∷ s) n r e =
-    either_way (digit_of c) 10
-    (λ l. sym (first l)
-    ∙ either_is (digit_of c) 0 (λ z. zero_alone z (sym (front_zero c s z) ∙ e))
-    (λ z. grow_sound (digit_of c) s n r (omega arith) (sym (front_grow c s l (omega arith)) ∙ e)))
-    (λ l. let q : none ≡ number n r = sym (front_other c s l) ∙ e in
-    impossible cc)
+    by_option (λ o. c ∷ s ≡ decimal n ++ r) (digit_of c)
+    (λ d q. sym (first d (byte_digit c d q))
+    ∙ either_is d 0
+    (λ z. ap (λ (x : ℕ). decimal x ++ s) z ∙ same_parts (same_Some _ _ (sym (front_zero c s (q ∙ ap Some z)) ∙ e)))
+    (λ z. grow_sound d s n r (omega arith) (same_Some _ _ (sym (front_grow c s d q (omega arith)) ∙ e))))
+    (λ q. absurd (none-some _ (sym (front_other c s q) ∙ e)))
   where
-    first : digit_of c < 10 → decimal (digit_of c) ++ s ≡ c ∷ s
-    first l = ap (λ (w : List ℕ). w ++ s) (decimal_one (digit_of c) l) ∙ ap (λ (x : ℕ). x ∷ s) (byte_digit c l)
-
-    zero_alone : digit_of c ≡ 0 → number 0 s ≡ number n r → decimal (digit_of c) ++ s ≡ decimal n ++ r
-    zero_alone z q = let a : digit_of c ≡ n = cc in let b : s ≡ r = cc in ap₂ (λ (x : ℕ) (y : List ℕ). decimal x ++ y) a b
+    first : (d : ℕ) → (d < 10) × (d + 48 ≡ c) → decimal d ++ s ≡ c ∷ s
+    first d h = ap (λ (w : List ℕ). w ++ s) (decimal_one d h.0) ∙ ap (λ (x : ℕ). x ∷ s) h.1

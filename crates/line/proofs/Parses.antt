@@ -1,60 +1,49 @@
 -- A line is read to a tick and a word exactly if it is their line. Assumes nothing.
-use mathlib.Core.Path.{◌≡◌, refl, sym, ap, ap₂, ◌∙◌}
-use Prim.Native.Nat.{ℕ, ◌<◌}
-use native.Mathlib.Omega.{arith}
+use Rattle.std.specs.Prelude.{Option, Some, None}
+use Rattle.std.proofs.lemmas.Option.{none-some, same_Some}
+use mathlib.Core.Path.{◌≡◌, refl, sym, ap, ◌∙◌}
+use Prim.Native.Nat.{ℕ}
 use mathlib.Core.List.{List, [], ◌∷◌, ◌++◌}
 use borrow.Author.Tests.{eq-eqb, ne_eqb}
-use Rattle.rules.proofs.Impossible.{impossible}
 use Rattle.decimal.proofs.Branches.{either_is}
 use Rattle.line.specs.Lines.{letters_of}
 use Rattle.decimal.specs.Decimal.{decimal}
+use Rattle.line.specs.declared.Tick.{Tick}
 use Rattle.line.specs.Answer.{LineOf}
-use Rattle.line.specs.inner.Scan.{Front, front_of, word_of, with_word, after_front, parse}
-use Rattle.line.specs.inner.Scan.Front.{none, number}
-use Rattle.line.specs.inner.Scan.Parsed.{malformed, line}
+use Rattle.line.specs.inner.Scan.{front_of, word_of, with_word, after_number, after_front, parse}
 use Rattle.line.proofs.Numbers.{front_decimal, front_sound}
 use Rattle.line.proofs.Letters.{word_letters, letters_word}
 
-pub word_some : (t w : ℕ) → 0 < w → with_word t w ≡ line t w
-word_some t w p = simp (ne_eqb w 0 (λ e. omega arith))
-
 -- a tick's line is read to the tick and its events
-pub parse_line : (s : List ℕ) (t w : ℕ) → LineOf s t w → parse s ≡ line t w
+pub parse_line : (s : List ℕ) (t w : ℕ) → LineOf s t w → parse s ≡ Some (record { t = t; events = w })
 unfolding parse
 parse_line s t w l =
     ap (λ (x : List ℕ). after_front (front_of x)) l.same
     ∙ ap after_front (front_decimal t (letters_of w))
-    ∙ ap (with_word t) (word_letters w l.fits)
-    ∙ word_some t w l.some
+    ∙ ap (with_word t) (word_letters w l.some l.fits)
 
 -- what is read to a tick and a word is their line
-pub line_parsed : (s : List ℕ) (t w : ℕ) → parse s ≡ line t w → LineOf s t w
+pub line_parsed : (s : List ℕ) (r : Tick) → parse s ≡ Some r → LineOf s r.t r.events
 unfolding parse
-line_parsed s t w e = at_front (front_of s) refl e
+line_parsed s r e = at_front (front_of s) refl e
   where
-    at_word : (n : ℕ) (r : List ℕ) → s ≡ decimal n ++ (32 ∷ r) → with_word n (word_of r) ≡ line t w → LineOf s t w
-    at_word n r q e =
-        either_is (word_of r) 0
-        (λ z. let x : with_word n (word_of r) ≡ malformed = simp (eq-eqb (word_of r) 0 z) in
-        impossible cc)
-        (λ z. let x : with_word n (word_of r) ≡ line n (word_of r) = word_some n (word_of r) (omega arith) in
-        let a : n ≡ t = cc in
-        let b : word_of r ≡ w = cc in
-        let f = letters_word r w b (omega arith) in
-        record { some = omega arith; fits = f.1; same = q ∙ ap₂ (λ (i : ℕ) (x : List ℕ). decimal i ++ (32 ∷ x)) a f.0 })
+    at_word : (n : ℕ) (rest : List ℕ) → s ≡ decimal n ++ (32 ∷ rest) → (o : Option ℕ) → word_of rest ≡ o → with_word n o ≡ Some r → LineOf s r.t r.events
+    at_word n rest q None z e = absurd (none-some r e)
+    at_word n rest q (Some w) z e =
+        let a : record { t = n; events = w } ≡ r = same_Some _ _ e in
+        let f = letters_word rest w z in
+        rw (← a) (record { some = f.2; fits = f.1; same = q ∙ ap (λ (x : List ℕ). decimal n ++ (32 ∷ x)) f.0 })
 
-    at_front : (f : Front) → front_of s ≡ f → after_front f ≡ line t w → LineOf s t w
-    at_front none q e = impossible cc
-    at_front (number n []) q e = impossible cc
-    at_front (number n (c ∷ r)) q e =
+    at_front : (f : Option (ℕ × List ℕ)) → front_of s ≡ f → after_front f ≡ Some r → LineOf s r.t r.events
+    at_front None q e = absurd (none-some r e)
+    at_front (Some (n, [])) q e = absurd (none-some r e)
+    at_front (Some (n, c ∷ rest)) q e =
         either_is c 32
-        (λ z. at_word n r (front_sound s n (c ∷ r) q ∙ ap (λ (x : ℕ). decimal n ++ (x ∷ r)) z)
-        (let x : after_front (number n (c ∷ r)) ≡ with_word n (word_of r) = simp (eq-eqb c 32 z) in sym x ∙ e))
-        (λ z. let x : after_front (number n (c ∷ r)) ≡ malformed = simp (ne_eqb c 32 z) in
-        impossible cc)
+        (λ z. at_word n rest (front_sound s n (c ∷ rest) q ∙ ap (λ (x : ℕ). decimal n ++ (x ∷ rest)) z) (word_of rest) refl
+        (let x : after_number n (c ∷ rest) ≡ with_word n (word_of rest) = simp (eq-eqb c 32 z) in sym x ∙ e))
+        (λ z. let x : after_number n (c ∷ rest) ≡ None = simp (ne_eqb c 32 z) in
+        absurd (none-some r (sym x ∙ e)))
 
 -- a malformed line is the line of no tick
-pub no_line : (s : List ℕ) → parse s ≡ malformed → (t w : ℕ) → LineOf s t w → ⊥
-no_line s e t w l =
-    let x : parse s ≡ line t w = parse_line s t w l in
-    impossible cc
+pub no_line : (s : List ℕ) → parse s ≡ None → (t w : ℕ) → LineOf s t w → ⊥
+no_line s e t w l = none-some _ (sym e ∙ parse_line s t w l)

@@ -1,14 +1,11 @@
 -- What reading and writing a line answer (docs/RULES.md, "The watch program", "Refusals"); and what the caller's slice holds afterwards.
 -- Assumes nothing: these are definitions.
-use Rattle.std.specs.Prelude.{ℕ, ◌^◌, ◌<◌, ◌≤◌, ◌≡◌, List, ◌++◌, length, drop}
+use Rattle.std.specs.Prelude.{ℕ, ◌^◌, ◌<◌, ◌≤◌, ◌≡◌, List, ◌++◌, length, drop, Result, Ok, Err}
 use Rattle.rules.specs.Limits.{letters, ticks}
 use Rattle.refusal.specs.declared.Refusal.{Refusal}
 use Rattle.refusal.specs.declared.Refusal.TheVariants.{Line, Range, Room}
 use Rattle.line.specs.Lines.{most_line, tick_line}
-use Rattle.line.specs.declared.LineRead.{LineRead}
-use Rattle.line.specs.declared.LineRead.TheVariants.{Tick, Refused as Unread}
-use Rattle.line.specs.declared.LineWritten.{LineWritten}
-use Rattle.line.specs.declared.LineWritten.TheVariants.{Written, Refused as Unwritten}
+use Rattle.line.specs.declared.Tick.{Tick}
 
 -- s is the line of a tick t of any size, with the events of the word w, at least one
 pub record LineOf (s : List ℕ) (t w : ℕ) : Type 0 where
@@ -37,9 +34,9 @@ pub data RefusedLine (s : List ℕ) : Refusal → Type 0 where
   range : IsRange s → RefusedLine s (Range 0)
 
 -- the answer to reading the line s
-abbrev pub LineReadOf : List ℕ → LineRead → Type 0
-LineReadOf s (Tick t w) = IsTick s t w
-LineReadOf s (Unread r) = RefusedLine s r
+abbrev pub LineReadOf : List ℕ → Result Tick Refusal → Type 0
+LineReadOf s (Ok r) = IsTick s r.t r.events
+LineReadOf s (Err r) = RefusedLine s r
 
 -- the line's bytes are written to d, which holds d' afterwards: the line, and then what stood there before
 pub record IsWritten (bytes d d' : List ℕ) (n : ℕ) : Type 0 where
@@ -57,6 +54,6 @@ pub data RefusedWriting (bytes d : List ℕ) : Refusal → Type 0 where
   room : {need : ℕ} → IsRoom bytes d need → RefusedWriting bytes d (Room need)
 
 -- the answer to writing a line's bytes to the slice d, which holds d' afterwards; a refusal changes nothing
-abbrev pub LineWrittenOf : List ℕ → List ℕ → List ℕ → LineWritten → Type 0
-LineWrittenOf bytes d d' (Written n) = IsWritten bytes d d' n
-LineWrittenOf bytes d d' (Unwritten r) = RefusedWriting bytes d r × (d' ≡ d)
+abbrev pub LineWrittenOf : List ℕ → List ℕ → List ℕ → Result ℕ Refusal → Type 0
+LineWrittenOf bytes d d' (Ok n) = IsWritten bytes d d' n
+LineWrittenOf bytes d d' (Err r) = RefusedWriting bytes d r × (d' ≡ d)

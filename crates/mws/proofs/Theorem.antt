@@ -1,10 +1,11 @@
 -- Each claim of specs/Claim, proved: the promise behind a call gives one answer, and the number and the status word follow from the answer.
 -- Assumes nothing.
+use Rattle.std.specs.Prelude.{Result}
+use Rattle.refusal.specs.declared.Refusal.{Refusal}
 use mathlib.Core.Path.{◌≡◌, refl, sym, ap, ap₂, ◌∙◌}
 use mathlib.Core.List.{List}
 use Prim.Native.Nat.{ℕ}
 use Rattle.text.proofs.Decided.{one_reading, one_printing}
-use Rattle.file.specs.declared.Writing.{Writing}
 use Rattle.file.specs.Contents.{file_of}
 use Rattle.file.specs.Write.{after}
 use Rattle.plain.specs.Claim.{start_number}
@@ -12,7 +13,7 @@ use Rattle.plain.proofs.Theorem.{one_answer, one_start}
 use Rattle.watcher.proofs.Theorem.{one_tick, one_opening, one_room}
 use Rattle.watcher.proofs.Fed.{one_feeding}
 use Rattle.set.proofs.Theorem.{one_set_tick, one_set_opening, one_set_room}
-use Rattle.mws.specs.Status.{Outcome, status_of, number_after, Told, evaluating}
+use Rattle.mws.specs.Status.{Outcome, status_of, number_after, Told, done}
 use Rattle.mws.specs.Claim.{OneOutcome, CallsFixed, OnePlain, OneRowLatest}
 
 -- what follows from equal answers is equal
@@ -39,7 +40,7 @@ calls_fixed = record {
   text_print = λ s d b b' a a' x y. let k = one_printing s d b b' a a' x y in (k.1, k.0);
   file_write = λ names counts bodies old b b' a a' x y.
       let e : a ≡ a' = x.answer ∙ sym y.answer in
-      (same (λ (r : Writing). after r (file_of names counts bodies) old) e x.later y.later, e);
+      (same (λ (r : Result ℕ Refusal). after r (file_of names counts bodies) old) e x.later y.later, e);
   watch_room = λ b u u' a a' x y. (refl, one_room b a a' x y);
   watch_open = λ b old s s' a a' x y. let k = one_opening b old s s' a a' x y in (k.1, k.0);
   watch_tick = λ s t w s₁ s₂ a a' x y. let k = one_tick s s₁ s₂ t w a a' x y in (k.1, k.0);
@@ -54,7 +55,7 @@ calls_fixed = record {
 pub one_plain : OnePlain
 one_plain b words old new₁ new₂ w₁ w₂ bytes u₁ u₂ x y =
     let k = one_answer b words old new₁ new₂ x.answer y.answer bytes u₁ u₂ x.promise y.promise in
-    (k.1, (told_alike evaluating 0 0 0 w₁ w₂ x y k.0).1)
+    (k.1, (told_alike done 0 0 0 w₁ w₂ x y k.0).1)
 
 pub one_row_latest : OneRowLatest
 one_row_latest row n₁ n₂ x y =

@@ -10,7 +10,7 @@ use Rattle.watcher.specs.Answer.{RoomAnswers, OpenAnswers, TickAnswers}
 use Rattle.watcher.specs.Feed.{FeedAnswers}
 use Rattle.set.specs.Set.{SetAnswers}
 use Rattle.set.specs.File.{SetRoomAnswers, SetOpenAnswers}
-use Rattle.mws.specs.Status.{Outcome, Told, Done, evaluating, RowLatest}
+use Rattle.mws.specs.Status.{Outcome, Told, Done, done, RowLatest}
 
 -- a promise on what a slice holds afterwards and on the answer leaves no choice
 abbrev pub Fixed : {A B : Type 0} → (B → A → Type 0) → Type 0
@@ -39,7 +39,7 @@ pub record CallsFixed : Type 0 where
 abbrev pub OnePlain : Type 0
 OnePlain =
     (b words old new₁ new₂ : List ℕ) (w₁ w₂ : ℕ) → Bytes b → Words new₁ → Words new₂
-    → Done evaluating (Answers b words old new₁) w₁ → Done evaluating (Answers b words old new₂) w₂ → (new₁ ≡ new₂) × (w₁ ≡ w₂)
+    → Done done (Answers b words old new₁) w₁ → Done done (Answers b words old new₂) w₂ → (new₁ ≡ new₂) × (w₁ ≡ w₂)
 
 -- no second number meets the promise of a row's latest start
 abbrev pub OneRowLatest : Type 0

@@ -1,4 +1,5 @@
 -- What each row function computes, as a statement on its bits. Assumes nothing.
+use Rattle.std.specs.Prelude.{Some, None}
 use mathlib.Core.Path.{◌≡◌, sym, ap, ◌∙◌, subst}
 use mathlib.Core.Logic.{◌⊎◌, inl, inr, ⊎_elim, ◌↔◌}
 use mathlib.Core.List.{List}
@@ -9,7 +10,6 @@ use native.Mathlib.Decide.{dec_lt, dec_le, ℕ_discrete}
 use lib.Bits.{bit_and, bit_or}
 use lib.ListN.{get_or, length, get_or-eq_default}
 use lib.Pow.{shl_exact}
-use Rattle.plain.specs.declared.Start.TheVariants.{Nowhere, At}
 use Rattle.rules.specs.declared.Op.TheVariants.{Both, Without}
 use Rattle.rules.specs.Bits.{bit, On}
 use Rattle.rules.specs.Instances.{Rule}
@@ -50,27 +50,27 @@ from_k a k ha s = (to (dec_lt s k), back)
     back p = omega (arith, same p.1, ap (λ (x : ℕ). bit x s) e)
 
 -- the latest start
-pub latest_le : (a l p : ℕ) → IsLatest a (At l) → On a p → p ≤ l
+pub latest_le : (a l p : ℕ) → IsLatest a (Some l) → On a p → p ≤ l
 latest_le a l p e h = go (dec_lt l p)
   where
     go : Dec (l < p) → p ≤ l
     go (yes k) = absurd (e.1 p k h)
     go (no k) = omega arith
 
-pub above_none : (a b : ℕ) → IsLatest b Nowhere → Exactly a (λ s. On a s × ((t : ℕ) → On b t → s ≤ t → ⊥))
+pub above_none : (a b : ℕ) → IsLatest b None → Exactly a (λ s. On a s × ((t : ℕ) → On b t → s ≤ t → ⊥))
 above_none a b e s = ((λ h. (h, (λ t k l. e t k))), (λ p. p.0))
 
-pub above_at : (a b l r : ℕ) → IsLatest b (At l) → Exactly r (λ s. On a s × (l + 1 ≤ s)) → Exactly r (λ s. On a s × ((t : ℕ) → On b t → s ≤ t → ⊥))
+pub above_at : (a b l r : ℕ) → IsLatest b (Some l) → Exactly r (λ s. On a s × (l + 1 ≤ s)) → Exactly r (λ s. On a s × ((t : ℕ) → On b t → s ≤ t → ⊥))
 above_at a b l r e f s = (
   (λ h. (((f s).0 h).0, (λ t k m. e.1 t (omega (arith, ((f s).0 h).1)) k))),
   (λ p. (f s).1 (p.0, omega (arith, p.1 l e.0))),
 )
 
 -- the lesser of two starts
-pub lesser_none : (a b : ℕ) → IsLatest a Nowhere → Exactly 0 (Lesser a b)
+pub lesser_none : (a b : ℕ) → IsLatest a None → Exactly 0 (Lesser a b)
 lesser_none a b e = empty (Lesser a b) (λ s p. e p.0 p.2)
 
-pub lesser_none_r : (a b : ℕ) → IsLatest b Nowhere → Exactly 0 (Lesser a b)
+pub lesser_none_r : (a b : ℕ) → IsLatest b None → Exactly 0 (Lesser a b)
 lesser_none_r a b e = empty (Lesser a b) (λ s p. e p.1 p.3)
 
 pub low : (a k : ℕ) → k ≤ 63 → Exactly (bit_and a ((2 ^ 64 - 1) / 2 ^ (63 - k))) (λ s. On a s × (s ≤ k))
@@ -92,7 +92,7 @@ all a k ha hk s = ((λ h. (h, omega (arith, has_lt a 64 s ha h))), (λ p. p.0))
 pub from_high : (a k : ℕ) → a < 2 ^ 64 → 64 ≤ k → Exactly 0 (λ s. On a s × (k ≤ s))
 from_high a k ha hk = empty (λ s. On a s × (k ≤ s)) (λ s p. omega (arith, has_lt a 64 s ha p.0, p.1))
 
-pub lesser_at : (a b l m k r : ℕ) → IsLatest a (At l) → IsLatest b (At m) → k ≡ min l m → Exactly r (λ s. On (bit_or a b) s × (s ≤ k)) → Exactly r (Lesser a b)
+pub lesser_at : (a b l m k r : ℕ) → IsLatest a (Some l) → IsLatest b (Some m) → k ≡ min l m → Exactly r (λ s. On (bit_or a b) s × (s ≤ k)) → Exactly r (Lesser a b)
 lesser_at a b l m k r ea eb ek f s = ((λ h. to ((f s).0 h)), (λ p. (f s).1 (back p (dec_le p.0 p.1))))
   where
     to : On (bit_or a b) s × (s ≤ k) → Lesser a b s
@@ -125,10 +125,10 @@ before_more x i acc f s = ((λ h. to ((or acc (get_or x i 0) s).0 h)), (λ p. (o
 abbrev pub Follows : List ℕ → ℕ → ℕ → Type 0
 Follows x y s = (t : ℕ) × (u : ℕ) × Shown x s t × On y u × (t < u)
 
-pub chain_none : (x : List ℕ) (y : ℕ) → IsLatest y Nowhere → Exactly 0 (Follows x y)
+pub chain_none : (x : List ℕ) (y : ℕ) → IsLatest y None → Exactly 0 (Follows x y)
 chain_none x y l = empty (Follows x y) (λ s p. l p.1 p.3)
 
-pub chain_at : (x : List ℕ) (y u r : ℕ) → IsLatest y (At u) → Exactly r (Before x u) → Exactly r (Follows x y)
+pub chain_at : (x : List ℕ) (y u r : ℕ) → IsLatest y (Some u) → Exactly r (Before x u) → Exactly r (Follows x y)
 chain_at x y u r l f s = (
   (λ h. let b = (f s).0 h in (b.0, u, b.2, l.0, b.1)),
   (λ p. (f s).1 (p.0, omega (arith, latest_le y u p.1 l p.3, p.4), p.2)),

@@ -1,6 +1,7 @@
 -- The claims of specs/Claim, proved: the rows show and count the instances of the rules, the promises leave no choice, and the evaluator agrees
 -- with the detector.
 -- Assumes nothing.
+use Rattle.std.specs.Prelude.{Result, Some, None, Ok, Err}
 use mathlib.Core.Path.{◌≡◌, refl, sym, ap, ◌∙◌, subst}
 use mathlib.Core.Logic.{◌↔◌, inl, inr, ⊎_elim}
 use mathlib.Core.List.{List, [], ◌∷◌, ◌++◌, append_assoc}
@@ -9,6 +10,7 @@ use native.Mathlib.Decide.{dec_lt, ℕ_discrete}
 use native.Mathlib.Omega.{arith}
 use lib.ListN.{get_or, length, length-append}
 use lib.Seq.{ext_get_or, get_or_at}
+use Rattle.refusal.specs.declared.Refusal.{Refusal}
 use Rattle.rules.proofs.Impossible.{impossible}
 use Rattle.rules.specs.Bits.{bit, On, ones_below}
 use Rattle.rules.specs.Limits.{argument_bytes}
@@ -22,14 +24,9 @@ use Rattle.rules.proofs.Facts.{has_le, has_agree, latest_unique}
 use Rattle.detector.specs.Step.{answer}
 use Rattle.detector.specs.Run.{run}
 use Rattle.detector.proofs.Theorem.{always}
-use Rattle.body.specs.declared.BodyCheck.{BodyCheck}
-use Rattle.body.specs.declared.BodyCheck.TheVariants as Checked
 use Rattle.body.specs.Check.{on_check, check_of}
 use Rattle.body.proofs.Bodies.{sound_pattern}
 use Rattle.body.proofs.Trees.{size_pos}
-use Rattle.plain.specs.declared.Start.TheVariants.{Nowhere, At}
-use Rattle.plain.specs.declared.Evaluation.{Evaluation}
-use Rattle.plain.specs.declared.Evaluation.TheVariants.{Evaluated, Refused}
 use Rattle.plain.specs.Rows.{Shown, rows_of, worded, parts, Written}
 use Rattle.plain.specs.Answer.{evaluation_of, Answers}
 use Rattle.plain.specs.Claim.{ShownExactly, Words, OneAnswer, OneStart, start_number, LatestOfRow, Count, CountsInstances, history_from, AgreesWithDetector}
@@ -42,17 +39,17 @@ pub shown_exactly : ShownExactly
 shown_exactly b words old new e body a k h = (a.rows e body).shown k h
 
 pub one_start : OneStart
-one_start row Nowhere Nowhere h k = refl
-one_start row Nowhere (At s) h k = absurd (h s k.0)
-one_start row (At s) Nowhere h k = absurd (k s h.0)
-one_start row (At s) (At t) h k = let e : s ≡ t = omega (arith, latest_le row s t h k.0, latest_le row t s k h.0) in ap At e
+one_start row None None h k = refl
+one_start row None (Some s) h k = absurd (h s k.0)
+one_start row (Some s) None h k = absurd (k s h.0)
+one_start row (Some s) (Some t) h k = let e : s ≡ t = omega (arith, latest_le row s t h k.0, latest_le row t s k h.0) in ap Some e
 
 pub latest_of_row : LatestOfRow
-latest_of_row b words old new e body a k h t Nowhere l = record {
+latest_of_row b words old new e body a k h t None l = record {
   bound = λ s x. absurd (l s ((shown_exactly b words old new e body a k h s t).1 x));
   real = λ s p. absurd (omega arith);
 }
-latest_of_row b words old new e body a k h t (At s) l = record {
+latest_of_row b words old new e body a k h t (Some s) l = record {
   bound = λ u x. omega (arith, latest_le (get_or (rows_of new k) t 0) s u l ((shown_exactly b words old new e body a k h u t).1 x));
   real = λ u p.
       let q : s ≡ u = omega arith in
@@ -137,11 +134,11 @@ one_written r es old new new' w w' a a' =
     at i (no h) = a.kept i (omega arith) ∙ sym (a'.kept i (omega arith))
 
 -- a body that was evaluated is sound
-if_evaluated : (c : BodyCheck) (x : Evaluation) → on_check c Refused x ≡ Evaluated → c ≡ Checked.Sound
-if_evaluated Checked.Sound x p = refl
-if_evaluated (Checked.Refused r) x p = impossible cc
+if_evaluated : (c : Result (Unit {0}) Refusal) (x : Result (Unit {0}) Refusal) → on_check c Err x ≡ Ok tt → c ≡ Ok tt
+if_evaluated (Ok _) x p = refl
+if_evaluated (Err r) x p = impossible cc
 
-evaluated_sound : (b : List ℕ) (words room : ℕ) → Evaluated ≡ evaluation_of b words room → check_of argument_bytes b ≡ Checked.Sound
+evaluated_sound : (b : List ℕ) (words room : ℕ) → Ok tt ≡ evaluation_of b words room → check_of argument_bytes b ≡ Ok tt
 unfolding evaluation_of
 evaluated_sound b words room p = if_evaluated (check_of argument_bytes b) _ (sym p)
 
@@ -151,13 +148,13 @@ one_answer b words old new new' a a' w u u' h h' = (same, slices a a' same h h')
     same : a ≡ a'
     same = h.answered ∙ sym h'.answered
 
-    slices : (a a' : Evaluation) → a ≡ a' → Answers b words old new a → Answers b words old new' a' → new ≡ new'
-    slices Evaluated Evaluated p h h' =
+    slices : (a a' : Result (Unit {0}) Refusal) → a ≡ a' → Answers b words old new a → Answers b words old new' a' → new ≡ new'
+    slices (Ok _) (Ok _) p h h' =
         let f = sound_pattern argument_bytes b w (evaluated_sound b (length words) (length old) h.answered) in
         one_written (worded words) (parts f.0) old new new' u u' (h.rows f.0 f.1) (h'.rows f.0 f.1)
-    slices Evaluated (Refused r) p h h' = impossible cc
-    slices (Refused r) Evaluated p h h' = impossible cc
-    slices (Refused r) (Refused r') p h h' = h.rows ∙ sym h'.rows
+    slices (Ok _) (Err r) p h h' = impossible cc
+    slices (Err r) (Ok _) p h h' = impossible cc
+    slices (Err r) (Err r') p h h' = h.rows ∙ sym h'.rows
 
 -- the last entry ends the whole pattern
 last_part : (e : Pattern) → get_or (parts e) (pred (size e)) (event 0) ≡ e

@@ -1,6 +1,7 @@
 -- What is claimed of the plain evaluator: its rows show just the instances of the rules (docs/RULES.md, "The algebra", "The plain evaluator").
 -- Assumes nothing: these are definitions.
-use Rattle.std.specs.Prelude.{◌≡◌, ◌↔◌, List, [], ◌∷◌, ◌++◌, ℕ, suc, pred, ◌^◌, ◌<◌, get_or, length}
+use Rattle.std.specs.Prelude.{◌≡◌, ◌↔◌, List, [], ◌∷◌, ◌++◌, ℕ, suc, pred, ◌^◌, ◌<◌, get_or, length, Option, Result, Some, None, Ok}
+use Rattle.refusal.specs.declared.Refusal.{Refusal}
 use Rattle.rules.specs.Bits.{ones_below}
 use Rattle.rules.specs.Limits.{argument_bytes}
 use Rattle.rules.specs.Lists.{In}
@@ -11,10 +12,6 @@ use Rattle.detector.specs.Step.{answer}
 use Rattle.detector.specs.Run.{run}
 use Rattle.body.specs.Bytes.{Bytes}
 use Rattle.body.specs.Claim.{BodyOf}
-use Rattle.plain.specs.declared.Start.{Start}
-use Rattle.plain.specs.declared.Start.TheVariants.{Nowhere, At}
-use Rattle.plain.specs.declared.Evaluation.{Evaluation}
-use Rattle.plain.specs.declared.Evaluation.TheVariants.{Evaluated}
 use Rattle.plain.specs.Row.{IsLatest}
 use Rattle.plain.specs.Rows.{Shown, rows_of, worded, parts}
 use Rattle.plain.specs.Answer.{Answers}
@@ -22,7 +19,7 @@ use Rattle.plain.specs.Answer.{Answers}
 -- after an accepted evaluation, bit s of row e of entry k is set exactly if the rules of that entry's pattern have the instance
 abbrev pub ShownExactly : Type 0
 ShownExactly =
-    (b words old new : List ℕ) (e : Pattern) → BodyOf argument_bytes b e → Answers b words old new Evaluated
+    (b words old new : List ℕ) (e : Pattern) → BodyOf argument_bytes b e → Answers b words old new (Ok tt)
     → (k : ℕ) → k < length (parts e) → (s t : ℕ) → Shown (rows_of new k) s t ↔ Has (worded words) (get_or (parts e) k (event 0)) s t
 
 -- the words of a slice are below 2 ^ 64
@@ -32,23 +29,23 @@ Words l = (i : ℕ) → get_or l i 0 < 2 ^ 64
 -- only one answer and one slice meet the promise
 abbrev pub OneAnswer : Type 0
 OneAnswer =
-    (b words old new new' : List ℕ) (a a' : Evaluation) → Bytes b → Words new → Words new'
+    (b words old new new' : List ℕ) (a a' : Result (Unit {0}) Refusal) → Bytes b → Words new → Words new'
     → Answers b words old new a → Answers b words old new' a' → (a ≡ a') × (new ≡ new')
 
 -- start + 1, or 0 for none
-abbrev pub start_number : Start → ℕ
-start_number Nowhere = 0
-start_number (At s) = suc s
+abbrev pub start_number : Option ℕ → ℕ
+start_number None = 0
+start_number (Some s) = suc s
 
 -- a row has only one latest start, so `latest_start` has only one answer
 abbrev pub OneStart : Type 0
-OneStart = (row : ℕ) (start start' : Start) → IsLatest row start → IsLatest row start' → start ≡ start'
+OneStart = (row : ℕ) (start start' : Option ℕ) → IsLatest row start → IsLatest row start' → start ≡ start'
 
 -- the latest start of row t of an entry is that of the instances of its pattern that end at t
 abbrev pub LatestOfRow : Type 0
 LatestOfRow =
-    (b words old new : List ℕ) (e : Pattern) → BodyOf argument_bytes b e → Answers b words old new Evaluated
-    → (k : ℕ) → k < length (parts e) → (t : ℕ) (start : Start) → IsLatest (get_or (rows_of new k) t 0) start
+    (b words old new : List ℕ) (e : Pattern) → BodyOf argument_bytes b e → Answers b words old new (Ok tt)
+    → (k : ℕ) → k < length (parts e) → (t : ℕ) (start : Option ℕ) → IsLatest (get_or (rows_of new k) t 0) start
     → Latest (Has (worded words) (get_or (parts e) k (event 0))) t (start_number start)
 
 -- no number stands in the list twice
@@ -66,7 +63,7 @@ pub record Count (P : ℕ → Type 0) (n : ℕ) : Type 0 where
 -- the ones of row t of an entry, which `instances` counts, are as many as the instances of its pattern that end at t
 abbrev pub CountsInstances : Type 0
 CountsInstances =
-    (b words old new : List ℕ) (e : Pattern) → BodyOf argument_bytes b e → Answers b words old new Evaluated
+    (b words old new : List ℕ) (e : Pattern) → BodyOf argument_bytes b e → Answers b words old new (Ok tt)
     → (k : ℕ) → k < length (parts e) → (t : ℕ)
     → Count (λ s. Has (worded words) (get_or (parts e) k (event 0)) s t) (ones_below 64 (get_or (rows_of new k) t 0))
 
@@ -79,6 +76,6 @@ history_from i (w ∷ words) = (i, w) ∷ history_from (suc i) words
 abbrev pub AgreesWithDetector : Type 0
 AgreesWithDetector =
     (b old new : List ℕ) (e : Pattern) (before after : List ℕ) (w : ℕ) → BodyOf argument_bytes b e
-    → Answers b (before ++ (w ∷ after)) old new Evaluated
-    → (start : Start) → IsLatest (get_or (rows_of new (pred (size e))) (length before) 0) start
+    → Answers b (before ++ (w ∷ after)) old new (Ok tt)
+    → (start : Option ℕ) → IsLatest (get_or (rows_of new (pred (size e))) (length before) 0) start
     → start_number start ≡ answer e (run e (history_from 0 before)) (length before) w

@@ -1,86 +1,63 @@
 // The plain evaluator: every instance of every entry of a body in a record of at most 64 ticks.
 #![tactic(auto)]
 
-ghost use Rattle.std.specs.Prelude.{◌≡◌, ◌⊎◌, ℕ, ◌+◌, ◌-◌, ◌*◌, ◌≤◌, ◌<◌, length, get_or};
+ghost use Rattle.std.specs.Prelude.{Ok, ◌≡◌, ◌⊎◌, ℕ, ◌+◌, ◌-◌, ◌*◌, ◌≤◌, ◌<◌, length, get_or};
 ghost use Rattle.rules.specs.Bits.{On, ones_below};
 ghost use Rattle.rules.specs.Instances.{Occurs, Rule, Short};
 ghost use Rattle.plain.specs.Row.{Exactly, IsLatest};
 ghost use Rattle.plain.specs.Rows.{Shown, rows_of, worded};
 ghost use Rattle.plain.specs.Answer.{Answers, RowsAfter, Ready};
-ghost use Rattle.plain.specs.inner.Fill.{Before, Seen, Lesser, Masked, PairReady, Filled};
+ghost use Rattle.plain.specs.inner.Fill.{Before, Seen, Lesser, Masked, Filled, FilledBy};
 
-use body::{BodyCheck, Entry};
+use body::Entry;
 use refusal::Refusal;
 use rules::{ENTRY_BYTES, MOST_WORDS, Op};
 
 // The rows of an entry, one a tick.
 const ROWS: usize = MOST_WORDS;
 
-// What evaluating answers.
-#[derive(Clone, Copy)]
-pub enum Evaluation {
-    Evaluated,
-    Refused(Refusal),
-}
-
-// The latest start of a row.
-#[derive(Clone, Copy)]
-pub enum Start {
-    Nowhere,
-    At(u32),
-}
-
 // Evaluates a body on at most 64 event words: 64 rows for each entry, bit s of row e for the instance from s to e.
-pub fn evaluate(body: &[u8], events: &[u32], rows: &mut [u64]) -> Evaluation
+pub fn evaluate(body: &[u8], events: &[u32], rows: &mut [u64]) -> Result<(), Refusal>
     ensures { Answers body.now events.now rows.old rows.new result }
 {
-    match body::check_body(body) {
-        BodyCheck::Refused(r) => Evaluation::Refused(r),
-        BodyCheck::Sound => {
-            if MOST_WORDS < events.len() {
-                return Evaluation::Refused(Refusal::Record);
-            }
-            let needed = body.len() / ENTRY_BYTES * ROWS;
-            if rows.len() < needed {
-                return Evaluation::Refused(Refusal::Room(needed));
-            }
-            fill_rows(body, events, rows);
-            Evaluation::Evaluated
-        }
+    body::check_body(body)?;
+    if MOST_WORDS < events.len() {
+        return Err(Refusal::Record);
     }
+    let needed = body.len() / ENTRY_BYTES * ROWS;
+    if rows.len() < needed {
+        return Err(Refusal::Room(needed));
+    }
+    fill_rows(body, events, rows);
+    Ok(())
 }
 
 // The latest start among the instances that a row shows.
-pub fn latest_start(row: u64) -> Start
+pub fn latest_start(row: u64) -> Option<u32>
     ensures { IsLatest row result }
 {
     if row == 0 {
-        return Start::Nowhere;
+        return None;
     }
-    Start::At(63 - u64::leading_zeros(row))
+    Some(63 - row.leading_zeros())
 }
 
 // How many instances a row shows.
 pub fn instances(row: u64) -> u32
     ensures { result ≡ ones_below 64 row }
 {
-    u64::count_ones(row)
+    row.count_ones()
 }
 
 // The rows of every entry of a sound body; `tops` has the places of the trees that no entry has taken yet.
 fn fill_rows(body: &[u8], events: &[u32], rows: &mut [u64])
     requires { Ready body.now events.now rows.old }
-    ensures { RowsAfter body.now events.now rows.old rows.new Evaluation.Evaluated }
+    ensures { RowsAfter body.now events.now rows.old rows.new (Ok tt) }
 {
-    let n = body.len() / ENTRY_BYTES;
     let mut tops = [0usize; 63];
     let mut d: usize = 0;
-    let mut i: usize = 0;
-    while i < n {
-        let entry = body::entry_at(body, i);
-        let k = i;
-        i += 1;
-        match entry {
+    for k in 0..body.len() / ENTRY_BYTES {
+        match body::entry_at(body, k) {
             Entry::Letter(kind) => {
                 fill_letter(rows, events, kind, k);
                 tops[d] = k;
@@ -100,21 +77,37 @@ fn fill_rows(body: &[u8], events: &[u32], rows: &mut [u64])
     }
 }
 
+// The rows of entry k, each from its number.
+fn fill<F: Fn(usize) -> u64>(rows: &mut [u64], k: usize, row: F)
+    requires room { k * 64 + 64 ≤ length rows.old }
+    requires each { (e : ℕ) → e < 64 → F.pre row e }
+    ensures { FilledBy (F.post row) k rows.old rows.new }
+{
+    let at = k * ROWS;
+    for e in 0..ROWS {
+        rows[at + e] = row(e);
+    }
+}
+
 // The rows of entry k, a letter.
 fn fill_letter(rows: &mut [u64], events: &[u32], kind: u64, k: usize)
     requires { k * 64 + 64 ≤ length rows.old }
     ensures { Filled (Occurs (worded events.now) kind) k rows.old rows.new }
 {
-    let at = k * ROWS;
-    let mut e = 0;
-    while e < ROWS {
-        let mut row: u64 = 0;
-        if e < events.len() {
-            row = letter_row(events[e], kind, e);
-        }
-        rows[at + e] = row;
-        e += 1;
-    }
+    fill(
+        rows,
+        k,
+        |e|
+            requires { e < 64 }
+            ensures { Exactly result (λ s. Occurs (worded events.entry.now) kind s e) }
+        {
+            if e < events.len() {
+                letter_row(events[e], kind, e)
+            } else {
+                0
+            }
+        },
+    );
 }
 
 // A row of a letter: the tick itself, if the event occurs.
@@ -134,13 +127,26 @@ fn fill_within(rows: &mut [u64], limit: u64, x: usize, k: usize)
     requires { (x < k) × (k * 64 + 64 ≤ length rows.old) }
     ensures { Filled (Short limit (Shown (rows_of rows.old x))) k rows.old rows.new }
 {
-    let from = x * ROWS;
-    let at = k * ROWS;
-    let mut e = 0;
-    while e < ROWS {
-        rows[at + e] = within_row(rows[from + e], e as u64, limit);
-        e += 1;
-    }
+    let operand = entry_rows(rows, x);
+    fill(
+        rows,
+        k,
+        |e|
+            requires { e < 64 }
+            ensures { Exactly result (λ s. Short limit (Shown operand) s e) }
+        { within_row(operand[e], e as u64, limit) },
+    );
+}
+
+// A copy of the rows of entry x.
+fn entry_rows(rows: &[u64], x: usize) -> [u64; ROWS]
+    requires { x * 64 + 64 ≤ length rows.now }
+    ensures { result ≡ rows_of rows.now x }
+{
+    let mut made = [0u64; ROWS];
+    let at = x * ROWS;
+    made.copy_from_slice(&rows[at..at + ROWS]);
+    made
 }
 
 // The starts of row e that are at most `limit` before it.
@@ -154,7 +160,7 @@ fn within_row(row: u64, e: u64, limit: u64) -> u64
 fn earliest(e: u64, limit: u64) -> u64
     ensures { result ≡ e - limit }
 {
-    if limit < e { e - limit } else { 0 }
+    e.saturating_sub(limit)
 }
 
 // The rows of entry k, an operator on the entries x and y.
@@ -162,52 +168,31 @@ fn fill_pair(rows: &mut [u64], op: Op, x: usize, y: usize, k: usize)
     requires { (x < k) × (y < k) × (k * 64 + 64 ≤ length rows.old) }
     ensures { Filled (Rule op (Shown (rows_of rows.old x)) (Shown (rows_of rows.old y))) k rows.old rows.new }
 {
-    let left = x * ROWS;
-    let right = y * ROWS;
-    let mut seen_x = [0u64; 65];
-    let mut seen_y = [0u64; 65];
-    see(&rows[left..left + ROWS], &mut seen_x);
-    see(&rows[right..right + ROWS], &mut seen_y);
-    fill_masked(rows, op, x, y, k, &seen_x, &seen_y);
+    let left = entry_rows(rows, x);
+    let right = entry_rows(rows, y);
+    let seen_left = seen(&left);
+    let seen_right = seen(&right);
+    fill(
+        rows,
+        k,
+        |e|
+            requires { Masked left seen_left e × Masked right seen_right e }
+            ensures { Exactly result (λ s. Rule op (Shown left) (Shown right) s e) }
+        { pair_row(op, &left, &right, &seen_left, &seen_right, e) },
+    );
 }
 
 // For each k up to 64, the starts of the rows below k.
-fn see(rows: &[u64], masks: &mut [u64])
-    requires { (length rows.now ≡ 64) × (length masks.old ≡ 65) }
-    ensures { Seen rows.now masks.new }
+fn seen(rows: &[u64; ROWS]) -> [u64; ROWS + 1]
+    ensures { Seen rows.now result }
 {
+    let mut masks = [0u64; ROWS + 1];
     let mut sum: u64 = 0;
-    masks[0] = 0;
-    let mut i = 0;
-    while i < ROWS {
+    for i in 0..ROWS {
         sum |= rows[i];
         masks[i + 1] = sum;
-        i += 1;
     }
-}
-
-// The rows of entry k, an operator on the entries x and y, by the masks of their rows.
-fn fill_masked(rows: &mut [u64], op: Op, x: usize, y: usize, k: usize, left: &[u64], right: &[u64])
-    requires { PairReady rows.old x y k left.now right.now }
-    ensures { Filled (Rule op (Shown (rows_of rows.old x)) (Shown (rows_of rows.old y))) k rows.old rows.new }
-{
-    let from = x * ROWS;
-    let to = y * ROWS;
-    let at = k * ROWS;
-    let mut e = 0;
-    while e < ROWS {
-        let all = &rows[..];
-        let row = pair_row(
-            op,
-            &all[from..from + ROWS],
-            &all[to..to + ROWS],
-            left,
-            right,
-            e,
-        );
-        rows[at + e] = row;
-        e += 1;
-    }
+    masks
 }
 
 // Row e of an operator, from its operands' rows and their masks.
@@ -229,8 +214,8 @@ fn chain_row(y: u64, x: &[u64], left: &[u64]) -> u64
     ensures { Exactly result (λ s. (t : ℕ) × (u : ℕ) × Shown x.now s t × On y u × (t < u)) }
 {
     match latest_start(y) {
-        Start::Nowhere => 0,
-        Start::At(u) => left[u as usize],
+        None => 0,
+        Some(u) => left[u as usize],
     }
 }
 
@@ -246,16 +231,10 @@ fn lesser(a: u64, b: u64) -> u64
     ensures { Exactly result (Lesser a b) }
 {
     match latest_start(a) {
-        Start::Nowhere => 0,
-        Start::At(l) => match latest_start(b) {
-            Start::Nowhere => 0,
-            Start::At(m) => {
-                if l < m {
-                    upto(a | b, l as u64)
-                } else {
-                    upto(a | b, m as u64)
-                }
-            }
+        None => 0,
+        Some(l) => match latest_start(b) {
+            None => 0,
+            Some(m) => { upto(a | b, l.min(m) as u64) }
         },
     }
 }
@@ -265,8 +244,8 @@ fn above(a: u64, b: u64) -> u64
     ensures { Exactly result (λ s. On a s × ((t : ℕ) → On b t → s ≤ t → ⊥)) }
 {
     match latest_start(b) {
-        Start::Nowhere => a,
-        Start::At(l) => from(a, l as u64 + 1),
+        None => a,
+        Some(l) => from(a, l as u64 + 1),
     }
 }
 

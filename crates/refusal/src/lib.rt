@@ -1,11 +1,11 @@
 // The table of refusals: the number, the place and the entry of each, and the status word for C.
 #![tactic(auto)]
 
-ghost use Rattle.std.specs.Prelude.{◌≡◌, min};
+ghost use Rattle.std.specs.Prelude.{◌≡◌};
 ghost use Rattle.refusal.specs.Table.{number_of, place_of, entry_named, packed_of};
 
 // A refusal by its name in the table. `Syntax` holds the bytes before the fault, `Room` the length needed, the others an index.
-#[derive(Clone, Copy)]
+#[derive(Clone, Copy, Debug, PartialEq, Eq)]
 pub enum Refusal {
     Long,
     Syntax(usize),
@@ -25,90 +25,69 @@ pub enum Refusal {
 }
 
 // Where a body breaks a rule: the index of the body, 0 for a lone one, and of the entry in it.
-#[derive(Clone, Copy)]
+#[derive(Clone, Copy, Debug, PartialEq, Eq)]
 pub struct Fault {
     pub body: usize,
     pub entry: usize,
 }
 
-// The refusal's number in the table.
-pub fn number(r: Refusal) -> u64
-    ensures { result ≡ number_of r }
-{
-    match r {
-        Refusal::Long => 1,
-        Refusal::Syntax(_) => 2,
-        Refusal::Many => 3,
-        Refusal::Count => 4,
-        Refusal::Entry(_) => 5,
-        Refusal::Size => 6,
-        Refusal::Body(_) => 7,
-        Refusal::Room(_) => 8,
-        Refusal::State(_) => 9,
-        Refusal::Range(_) => 10,
-        Refusal::Late(_) => 11,
-        Refusal::Record => 12,
-        Refusal::Full => 13,
-        Refusal::Line => 14,
-        Refusal::Absent => 15,
+impl Refusal {
+    // The refusal's number in the table.
+    pub fn number(self) -> u64
+        ensures { result ≡ number_of self }
+    {
+        match self {
+            Refusal::Long => 1,
+            Refusal::Syntax(_) => 2,
+            Refusal::Many => 3,
+            Refusal::Count => 4,
+            Refusal::Entry(_) => 5,
+            Refusal::Size => 6,
+            Refusal::Body(_) => 7,
+            Refusal::Room(_) => 8,
+            Refusal::State(_) => 9,
+            Refusal::Range(_) => 10,
+            Refusal::Late(_) => 11,
+            Refusal::Record => 12,
+            Refusal::Full => 13,
+            Refusal::Line => 14,
+            Refusal::Absent => 15,
+        }
     }
-}
 
-// The refusal's place, 0 where the table names none.
-pub fn place(r: Refusal) -> u64
-    ensures { result ≡ place_of r }
-{
-    match r {
-        Refusal::Syntax(bytes) => bytes as u64,
-        Refusal::Entry(index) => index as u64,
-        Refusal::Body(fault) => fault.body as u64,
-        Refusal::Room(needed) => needed as u64,
-        Refusal::State(index) => index as u64,
-        Refusal::Range(index) => index as u64,
-        Refusal::Late(index) => index as u64,
-        Refusal::Long => 0,
-        Refusal::Many => 0,
-        Refusal::Count => 0,
-        Refusal::Size => 0,
-        Refusal::Record => 0,
-        Refusal::Full => 0,
-        Refusal::Line => 0,
-        Refusal::Absent => 0,
+    // The refusal's place, 0 where the table names none.
+    pub fn place(self) -> u64
+        ensures { result ≡ place_of self }
+    {
+        match self {
+            Refusal::Syntax(bytes) => bytes as u64,
+            Refusal::Entry(index) => index as u64,
+            Refusal::Body(fault) => fault.body as u64,
+            Refusal::Room(needed) => needed as u64,
+            Refusal::State(index) => index as u64,
+            Refusal::Range(index) => index as u64,
+            Refusal::Late(index) => index as u64,
+            _ => 0,
+        }
     }
-}
 
-// The entry that `Body` names, 0 for every other refusal.
-pub fn entry(r: Refusal) -> u64
-    ensures { result ≡ entry_named r }
-{
-    match r {
-        Refusal::Body(fault) => fault.entry as u64,
-        Refusal::Long => 0,
-        Refusal::Many => 0,
-        Refusal::Count => 0,
-        Refusal::Size => 0,
-        Refusal::Record => 0,
-        Refusal::Full => 0,
-        Refusal::Line => 0,
-        Refusal::Absent => 0,
-        Refusal::Syntax(_) => 0,
-        Refusal::Entry(_) => 0,
-        Refusal::Room(_) => 0,
-        Refusal::State(_) => 0,
-        Refusal::Range(_) => 0,
-        Refusal::Late(_) => 0,
+    // The entry that `Body` names, 0 for every other refusal.
+    pub fn entry(self) -> u64
+        ensures { result ≡ entry_named self }
+    {
+        match self {
+            Refusal::Body(fault) => fault.entry as u64,
+            _ => 0,
+        }
     }
-}
 
-// The status word for C: the number in bits 0-7, the place in bits 8-39, the entry in bits 40-47. A place that does not fit is the largest that does.
-pub fn packed(r: Refusal) -> u64
-    ensures { result ≡ packed_of r }
-{
-    number(r) + 256 * at_most(place(r), 0xffff_ffff) + 0x100_0000_0000 * at_most(entry(r), 0xff)
-}
-
-fn at_most(n: u64, most: u64) -> u64
-    ensures { result ≡ min n most }
-{
-    if n < most { n } else { most }
+    // The status word for C: the number in bits 0-7, the place in bits 8-39, the entry in bits 40-47. A place that does not fit is the largest that does.
+    #[tactic(auto, unfolding(crate::specs::Table::packed_of))]
+    pub fn packed(self) -> u64
+        ensures { result ≡ packed_of self }
+    {
+        self.number()
+            + 256 * self.place().min(0xffff_ffff)
+            + 0x100_0000_0000 * self.entry().min(0xff)
+    }
 }

@@ -1,91 +1,52 @@
 // Lines and fields of the vectors.
-ghost use Rattle.std.specs.Prelude.{◌<◌, ◌≤◌, length};
+ghost use Rattle.std.specs.Prelude.{◌<◌, ◌≤◌, IfSome, length};
 
 use std::io;
-use text::Reading;
 
 // A length in five digits.
 pub(crate) fn read_length(head: [u8; 6]) -> usize {
-    let tens = digit(head[0]) * 10000 + digit(head[1]) * 1000 + digit(head[2]) * 100;
-    (tens + digit(head[3]) * 10 + digit(head[4])) as usize
+    let tens = worth(head[0]) * 10000 + worth(head[1]) * 1000 + worth(head[2]) * 100;
+    (tens + worth(head[3]) * 10 + worth(head[4])) as usize
 }
 
-// Where the line that begins at a place ends.
-pub(crate) fn line_end(input: &[u8], from: usize) -> usize
-    requires { from ≤ length input.now }
-    ensures { (from ≤ result) × (result ≤ length input.now) }
-{
-    let mut at = from;
-    while at < input.len() {
-        if input[at] == 10 {
-            return at;
-        }
-        at += 1;
-    }
-    at
-}
-
-// The place after a line feed, a space or a colon.
-pub(crate) fn after(input: &[u8], end: usize) -> usize
-    requires { end ≤ length input.now }
-    ensures { (end ≤ result) × (result ≤ length input.now) }
-{
-    if end < input.len() { end + 1 } else { end }
-}
-
-// A number in hexadecimal, and the place after the byte that ends it.
-#[derive(Clone, Copy)]
-pub(crate) struct Field {
-    pub(crate) value: u64,
-    pub(crate) next: usize,
-}
-
-pub(crate) fn read_field(input: &[u8], from: usize) -> Field
-    requires { from < length input.now }
-    ensures { (from < result.next) × (result.next ≤ length input.now) }
-{
-    let mut value: u64 = 0;
-    let mut at = from;
-    while at < input.len() {
-        let d = digit(input[at]);
-        at += 1;
-        if 15 < d {
-            return Field {
-                value: value,
-                next: at,
-            };
-        }
-        value = value % 1099511627776 * 16 + d;
-    }
-    Field {
-        value: value,
-        next: at,
-    }
-}
-
-fn digit(b: u8) -> u64
+// What a byte adds to a length, 16 if it is no digit.
+fn worth(byte: u8) -> u64
     ensures { result ≤ 16 }
 {
-    if b < 48 {
-        return 16;
-    }
-    if b < 58 {
-        return b as u64 - 48;
-    }
-    if b < 97 {
-        return 16;
-    }
-    if b < 103 {
-        return b as u64 - 87;
-    }
-    16
+    digit(byte).unwrap_or(16)
 }
 
-// The bytes of body written, 0 if the text is refused.
-pub(crate) fn read_bytes(pattern: &[u8], body: &mut [u8]) -> usize {
-    match text::read_pattern(pattern, body) {
-        Reading::Read(bytes) => bytes,
-        Reading::Refused(_) => 0,
+// The first line of a text, and what follows its line feed.
+pub(crate) fn cut(text: &[u8]) -> (&[u8], &[u8]) {
+    match text.iter().position(|byte| *byte == b'\n') {
+        Some(at) => (&text[..at], &text[at + 1..]),
+        None => (text, &text[text.len()..]),
+    }
+}
+
+// The number in hexadecimal that a line begins with, and what follows the byte that ends it.
+pub(crate) fn field(line: &[u8]) -> (u64, &[u8])
+    requires { 0 < length line.now }
+    ensures { length result.1.now < length line.now }
+{
+    let mut value: u64 = 0;
+    for (at, byte) in line.iter().enumerate() {
+        let Some(d) = digit(*byte) else {
+            return (value, &line[at + 1..]);
+        };
+        value = value % (1 << 40) * 16 + d;
+    }
+    (value, &line[line.len()..])
+}
+
+// The value of a digit in hexadecimal.
+fn digit(byte: u8) -> Option<u64>
+    ensures { IfSome result (λ d. d < 16) }
+{
+    match byte {
+        b'0'..=b'9' => Some(u64::from(byte - b'0')),
+        b'a'..=b'f' => Some(u64::from(byte - b'a') + 10),
+        _ => None,
     }
 }
 

@@ -47,13 +47,14 @@ fn read_full(rt: HostRuntime, bytes: &mut [u8]) -> bool {
 }
 
 fn replay_vector(rt: HostRuntime, vector: &[u8]) -> io::Result<()> {
-    let first = fields::line_end(vector, 0);
-    let second = fields::after(vector, first);
-    let middle = fields::line_end(vector, second);
-    let third = fields::after(vector, middle);
-    let last = fields::line_end(vector, third);
+    let (pattern, rest) = fields::cut(vector);
+    let (ticks, rest) = fields::cut(rest);
+    let (words, _) = fields::cut(rest);
     let mut body = [0u8; 315];
-    let bytes = fields::read_bytes(&vector[0..first], &mut body);
-    watched::watch(rt, &body, bytes, &vector[second..middle])?;
-    plainly::evaluate(rt, &body, bytes, &vector[third..last])
+    let bytes = text::read_pattern(pattern, &mut body).unwrap_or(0);
+    let Some(body) = body.get(0..bytes) else {
+        return Ok(());
+    };
+    watched::watch(rt, body, ticks)?;
+    plainly::evaluate(rt, body, words)
 }

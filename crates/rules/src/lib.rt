@@ -32,7 +32,7 @@ pub const MOST_PATTERNS: usize = 16;
 pub const MOST_WORDS: usize = 64;
 
 // The operators on two patterns, written | + - ; in pattern text.
-#[derive(Clone, Copy)]
+#[derive(Clone, Copy, Debug, PartialEq, Eq)]
 pub enum Op {
     Either,
     Both,

@@ -1,8 +1,8 @@
 -- A sound file holds patterns, each where its contents say; and a walk over them, a pattern at a time. Assumes nothing.
+use Rattle.std.specs.Prelude.{None, Ok}
 use Prim.Native.Nat.{ℕ, suc, ◌+◌, ◌≤◌, ◌<◌}
 use mathlib.Core.Path.{◌≡◌, refl, sym, ap, ap₂, subst, ◌∙◌}
 use mathlib.Core.List.{List, [], ◌∷◌, ◌++◌, append_assoc}
-use mathlib.Core.Option.{none}
 use native.Mathlib.Omega.{arith}
 use lib.ListN.{length, get_or, take, drop, length-append, length-take, length-drop, take-append-drop}
 use lib.Seq.{drop-drop, take_at, drop_at, length-take-le}
@@ -14,13 +14,12 @@ use Rattle.body.specs.Postfix.{encode, Bodied}
 use Rattle.body.proofs.Bytes.{bytes_take, bytes_drop}
 use Rattle.body.proofs.Trees.{size_pos}
 use Rattle.body.proofs.Bodies.{length_encode, sound_pattern}
-use Rattle.file.specs.declared.FileCheck.TheVariants.{Sound}
 use Rattle.file.specs.Contents.{body_bytes, name_bytes, total, body_at, body_of}
 use Rattle.file.specs.Check.{broken_entry, broken_body, file_check}
-use Rattle.file.specs.Place.{pattern_count}
+use Rattle.file.specs.Place.{place_at, pattern_count}
 use Rattle.file.proofs.Checks.{parts_sound, entry_kept_right, entries_first}
 use Rattle.file.proofs.Files.{accepted_parts, written_sound}
-use Rattle.file.proofs.Found.{bodies_first, body_valid}
+use Rattle.file.proofs.Placed.{bodies_first, body_valid}
 use Rattle.file.proofs.Theorem.{bodies_placed}
 use Rattle.set.specs.Set.{Few}
 use Rattle.set.specs.File.{sizes, bodies_of, Holds}
@@ -41,8 +40,8 @@ record Found (counts bodies : List ℕ) : Type 0 where
   same : bodies ≡ bodies_of patterns
   bodied : All (Bodied argument_bytes) patterns
 
-patterns_of : (before names counts bodies : List ℕ) (i b : ℕ) → broken_entry before names counts i ≡ none → length bodies ≡ total counts
-    → broken_body counts bodies b ≡ Sound → Bytes bodies → Found counts bodies
+patterns_of : (before names counts bodies : List ℕ) (i b : ℕ) → broken_entry before names counts i ≡ None → length bodies ≡ total counts
+    → broken_body counts bodies b ≡ Ok tt → Bytes bodies → Found counts bodies
 unfolding sizes bodies_of total
 patterns_of before names [] bodies i b p l q w = record { patterns = []; counted = refl; same = no_words bodies l; bodied = tt }
 patterns_of before names (n ∷ counts) bodies i b p l q w =
@@ -63,7 +62,7 @@ patterns_of before names (n ∷ counts) bodies i b p l q w =
       bodied = (e.1.bodied, rest.bodied);
     }
 
-pub sound_holds : (f : List ℕ) → Bytes f → file_check f ≡ Sound → (es : List Pattern) × Holds f es
+pub sound_holds : (f : List ℕ) → Bytes f → file_check f ≡ Ok tt → (es : List Pattern) × Holds f es
 sound_holds f w p =
     let k = accepted_parts f w p in
     let s = parts_sound k.names k.counts k.bodies k.parts.sound in
@@ -101,7 +100,7 @@ part_within : (l : List ℕ) (from long : ℕ) → 1 ≤ long → length (take l
 part_within l from long h e = omega (arith, length-take long (drop from l), length-drop from l)
 
 module _ {f : List ℕ} {es : List Pattern} (h : Holds f es) where
-  pub holds_sound : file_check f ≡ Sound
+  pub holds_sound : file_check f ≡ Ok tt
   holds_sound = ap file_check h.parts.same ∙ written_sound h.names (sizes es) (bodies_of es) h.parts.sound
 
   pub holds_count : pattern_count f ≡ length es
@@ -122,9 +121,8 @@ module _ {f : List ℕ} {es : List Pattern} (h : Holds f es) where
       k.1 ∙ ap (λ (l : List Pattern). body_of (sizes l) (bodies_of l) i) q ∙ body_there front e back in
       let count : n ≡ size e = ap (λ (l : List Pattern). get_or (sizes l) i 0) q ∙ size_there front e back in
       record {
-        from = body_at (sizes es) i;
-        long = body_bytes n;
-        place = k.0;
+        place = place_at (body_at (sizes es) i) (body_bytes n);
+        found = k.0;
         within = part_within f (body_at (sizes es) i) (body_bytes n) (omega (arith, size_pos e)) (ap length same ∙ omega (arith, length_encode argument_bytes e));
         body = record { bodied = bodied_at front e back (subst (All (Bodied argument_bytes)) q h.bodied); same = same };
       }

@@ -1,6 +1,5 @@
 pub mod Parts
 pub mod Judges
-pub mod Lent
 pub mod Steps
 pub mod Files
 pub mod Opens

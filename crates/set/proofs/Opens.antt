@@ -1,4 +1,6 @@
 -- The loops over a sound file's patterns: the rooms summed, and the states opened, a pattern at a time. Assumes nothing.
+use Rattle.std.specs.Prelude.{Err, Ok, Result}
+use Rattle.std.specs.Result.{result_unwrap_or}
 use Prim.Native.Nat.{ℕ, ◌+◌, ◌-◌, ◌*◌, ◌≤◌, ◌<◌}
 use mathlib.Core.Path.{◌≡◌, refl, sym, ap, ◌∙◌}
 use mathlib.Core.List.{List, [], ◌++◌, append_assoc, append-nil}
@@ -10,74 +12,53 @@ use Rattle.rules.specs.Limits.{argument_bytes, most_patterns}
 use Rattle.rules.specs.Pattern.{Pattern}
 use Rattle.detector.specs.Memory.{fresh}
 use Rattle.refusal.specs.declared.Refusal.{Refusal}
-use Rattle.body.specs.declared.BodyCheck.TheVariants as Bodies
 use Rattle.body.specs.Check.{check_of}
 use Rattle.body.specs.Claim.{BodyOf}
 use Rattle.body.proofs.Bodies.{one_pattern, encode_sound}
-use Rattle.file.specs.declared.Place.TheVariants.{At, Nowhere}
-use Rattle.file.specs.Place.{pattern_count, body_place}
-use Rattle.watcher.specs.declared.Needed.TheVariants as Needs
-use Rattle.watcher.specs.declared.Opening.{Opening}
-use Rattle.watcher.specs.declared.Opening.TheVariants as Opens
+use Rattle.file.specs.Place.{pattern_count}
 use Rattle.watcher.specs.State.{state_of, room_of}
 use Rattle.watcher.specs.Answer.{RoomAnswers, OpenAnswers, OpenRefused, unsound, short}
 use Rattle.watcher.proofs.Cells.{room_small}
 use Rattle.set.specs.File.{rooms_of, states_of, Holds, IsSetOpened}
-use Rattle.set.specs.inner.Calls.{RoomSummed, PatternAt, HasPattern, RoomAt, HasRoom, OpenedAt, OpenReady}
-use Rattle.set.proofs.Lent.{put_front}
+use Rattle.set.specs.inner.Calls.{RoomSummed, HasPattern, BodyAt, RoomAt, HasRoom, OpenedAt, OpenReady}
+use Rattle.std.proofs.lemmas.Slice.{take-put_mid}
 use Rattle.set.proofs.Files.{Ahead, Next, ahead_start, ahead_few, ahead_end, ahead_more}
 
--- a pattern has a body, so its place is not nowhere
-pub found_somewhere : {f : List ℕ} {i : ℕ} {e : Pattern} → PatternAt f i e → body_place f i ≡ Nowhere → ⊥
-found_somewhere x q = let k = x.place in impossible cc
-
--- the body of pattern number i, as it is lent
-module _ {f : List ℕ} {i : ℕ} {e : Pattern} (x : PatternAt f i e) {from long : ℕ} (q : body_place f i ≡ At from long) where
-  from_is : x.from ≡ from
-  from_is = let k = x.place in cc
-
-  long_is : x.long ≡ long
-  long_is = let k = x.place in cc
-
-  pub part_within : from + long ≤ length f
-  part_within = omega (arith, x.within, from_is, long_is)
-
-  pub part_body : BodyOf argument_bytes (take (from + long - from) (drop from f)) e
-  part_body =
-      let k : from + long - from ≡ long = omega arith in
-      rw (k, ← from_is, ← long_is) x.body
-
-  not_refused : {r : Refusal} → check_of argument_bytes (take (from + long - from) (drop from f)) ≡ Bodies.Refused r → ⊥
+-- a pattern's body
+module _ {e : Pattern} {b : List ℕ} (x : BodyOf argument_bytes b e) where
+  not_refused : {r : Refusal} → check_of argument_bytes b ≡ Err r → ⊥
   not_refused k =
-      let s = ap (check_of argument_bytes) part_body.same ∙ encode_sound argument_bytes (omega arith) e part_body.bodied in impossible cc
+      let s = ap (check_of argument_bytes) x.same ∙ encode_sound argument_bytes (omega arith) e x.bodied in impossible cc
 
-  one : {e' : Pattern} → BodyOf argument_bytes (take (from + long - from) (drop from f)) e' → e' ≡ e
-  one {e'} b = one_pattern argument_bytes (omega arith) (take (from + long - from) (drop from f)) e' e b part_body
+  one : {e' : Pattern} → BodyOf argument_bytes b e' → e' ≡ e
+  one {e'} y = one_pattern argument_bytes (omega arith) b e' e y x
 
   -- its room, and its state as opened
-  pub room_words : {n : ℕ} → RoomAnswers (take (from + long - from) (drop from f)) (Needs.Words n) → n ≡ room_of e
-  room_words k = k.2 ∙ ap room_of (one k.1)
+  room_words : (r : Result ℕ Refusal) → RoomAnswers b r → result_unwrap_or r 0 ≡ room_of e
+  room_words (Ok n) k = k.2 ∙ ap room_of (one k.1)
+  room_words (Err r) k = absurd (not_refused k)
 
-  pub room_refused : {r : Refusal} → RoomAnswers (take (from + long - from) (drop from f)) (Needs.Refused r) → ⊥
-  room_refused k = not_refused k
-
-  opened_state : (s s' : List ℕ) (r : Opening) → OpenAnswers (take (from + long - from) (drop from f)) s s' r → length s ≡ room_of e
-      → s' ≡ state_of e 0 (fresh e)
-  opened_state s s' Opens.Opened o l =
+  opened_state : (s s' : List ℕ) (r : Result (Unit {0}) Refusal) → OpenAnswers b s s' r → length s ≡ room_of e → s' ≡ state_of e 0 (fresh e)
+  opened_state s s' (Ok _) o l =
       let w : s' ≡ state_of e 0 (fresh e) ++ drop (room_of e) s =
       o.words ∙ ap (λ (z : Pattern). state_of z 0 (fresh z) ++ drop (room_of z) s) (one o.body) in
       let k : length s ≤ room_of e = omega arith in
       w ∙ ap (λ (z : List ℕ). state_of e 0 (fresh e) ++ z) (drop_of_length-le s k) ∙ append-nil (state_of e 0 (fresh e))
-  opened_state s s' (Opens.Refused r) o l = absurd (go o.0)
+  opened_state s s' (Err r) o l = absurd (go o.0)
     where
-      go : OpenRefused (take (from + long - from) (drop from f)) s r → ⊥
+      go : OpenRefused b s r → ⊥
       go (unsound k) = not_refused k
-      go (short z b k m) = omega (arith, ap room_of (one b))
+      go (short z y k m) = omega (arith, ap room_of (one y))
 
--- so a slice with its room holds its state, whichever pattern is said to be there
-pub opened_at : {f : List ℕ} {i from long : ℕ} → body_place f i ≡ At from long → (s s' : List ℕ) (r : Opening)
-    → OpenAnswers (take (from + long - from) (drop from f)) s s' r → HasRoom f i s → OpenedAt f i s'
-opened_at q s s' r o h e x = opened_state x q s s' r o (h.2 ∙ ap room_of (one x q (part_body h.1 q)))
+-- so, whichever pattern is said to be there, the words are those of its state, and a slice with its room holds its state
+pub room_at : {f : List ℕ} {i : ℕ} {b : List ℕ} → BodyAt f i b → (r : Result ℕ Refusal) → RoomAnswers b r → RoomAt f i (result_unwrap_or r 0)
+room_at q r k = record { room = λ e x. room_words (q.body e x) r k }
+
+pub opened_at : {f : List ℕ} {i : ℕ} {b : List ℕ} → BodyAt f i b → (s s' : List ℕ) (r : Result (Unit {0}) Refusal) → OpenAnswers b s s' r
+    → HasRoom f i s → OpenedAt f i s'
+opened_at q s s' r o h = record {
+  state = λ e x. opened_state (q.body e x) s s' r o (h.room ∙ ap room_of (one (q.body e x) (q.body h.pattern h.at)));
+}
 
 -- before pattern i: the words of the states so far, and those ahead
 pub record Summing (f : List ℕ) (count words i : ℕ) : Type 0 where
@@ -107,11 +88,11 @@ module _ {f : List ℕ} {count words i : ℕ} (x : Summing f count words i) wher
     next = ahead_more x.ahead h
 
     pub summing_has : HasPattern f i
-    summing_has = (next.pattern, next.found)
+    summing_has = record { pattern = next.pattern; at = next.found }
 
     module _ (n : ℕ) (r : RoomAt f i n) where
       own : n ≡ room_of next.pattern
-      own = r next.pattern next.found
+      own = r.room next.pattern next.found
 
       pub summing_small : n ≤ 8003
       summing_small = omega (arith, own, room_small next.pattern next.found.body.bodied.few)
@@ -168,11 +149,11 @@ module _ {f old : List ℕ} {count : ℕ} {s : List ℕ} {from i : ℕ} (x : Fil
     filling_next = ahead_more x.ahead h
 
     pub filling_has : HasPattern f i
-    filling_has = (filling_next.pattern, filling_next.found)
+    filling_has = record { pattern = filling_next.pattern; at = filling_next.found }
 
     module _ (to n : ℕ) (r : RoomAt f i n) (q : to ≡ from + n) where
       mine : to ≡ from + room_of filling_next.pattern
-      mine = omega (arith, r filling_next.pattern filling_next.found)
+      mine = omega (arith, r.room filling_next.pattern filling_next.found)
 
       rooms : rooms_of x.rest ≡ room_of filling_next.pattern + rooms_of filling_next.others
       unfolding rooms_of
@@ -185,11 +166,11 @@ module _ {f old : List ℕ} {count : ℕ} {s : List ℕ} {from i : ℕ} (x : Fil
       mid_long = omega (arith, mid_len from to s filling_within, mine)
 
       pub filling_room : HasRoom f i (mid_of from (to - from) s)
-      filling_room = (filling_next.pattern, filling_next.found, mid_long)
+      filling_room = record { pattern = filling_next.pattern; at = filling_next.found; room = mid_long }
 
       module _ (p : List ℕ) (w : OpenedAt f i p) (l : length p ≡ length (mid_of from (to - from) s)) where
         state : p ≡ state_of filling_next.pattern 0 (fresh filling_next.pattern)
-        state = w filling_next.pattern filling_next.found
+        state = w.state filling_next.pattern filling_next.found
 
         length_part : length p ≡ to - from
         length_part = l ∙ mid_len from to s filling_within
@@ -212,6 +193,6 @@ module _ {f old : List ℕ} {count : ℕ} {s : List ℕ} {from i : ℕ} (x : Fil
                   ∙ ap (drop (to - from)) x.kept
                   ∙ Post-is from to old ends;
               words =
-                  rw (put_front from to s p ends filling_within length_part, append_assoc (take from s) p, state)
+                  rw (take-put_mid from (to - from) s p to (omega (arith, length_part)) (omega (arith, filling_within)), append_assoc (take from s) p, state)
                   (rw z.same at x.words);
             }

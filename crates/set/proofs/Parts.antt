@@ -1,61 +1,63 @@
 -- A state at the front of a slice: the words that it has are a state without words beyond, and those after them are the words beyond.
 -- Assumes nothing.
-use Prim.Native.Nat.{ℕ, ◌≤◌}
+use Rattle.std.specs.Prelude.{Some}
+use Prim.Native.Nat.{ℕ, ◌-◌, ◌≤◌}
 use mathlib.Core.Path.{◌≡◌, sym, ap, ◌∙◌}
 use mathlib.Core.Bool.{true}
 use mathlib.Core.List.{List, [], append-nil}
-use mathlib.Core.Option.{some}
 use native.Mathlib.Omega.{arith}
 use lib.ListN.{length, take, drop, length-append}
 use lib.Seq.{take_at, drop_at}
 use Rattle.watcher.specs.State.{next_of, state_of, InForm}
 use Rattle.watcher.specs.inner.Walk.{formed, extent}
 use Rattle.watcher.proofs.States.{next_word}
-use Rattle.watcher.proofs.Judges.{formed_exactly, in_form_extent, in_form_cells}
+use Rattle.watcher.proofs.Judges.{formed_exactly, extent_formed, in_form_extent, in_form_cells}
 
 -- what lies beyond a state is fixed by the words
 pub same_beyond : {s : List ℕ} (f g : InForm s) → f.beyond ≡ g.beyond
-same_beyond {s} f g = let e : some f.beyond ≡ some g.beyond = sym (in_form_cells s f) ∙ in_form_cells s g in cc
+same_beyond {s} f g = let e : Some f.beyond ≡ Some g.beyond = sym (in_form_cells s f) ∙ in_form_cells s g in cc
 
-module _ {s : List ℕ} (f : InForm s) where
+-- a state that was counted
+module _ (s : List ℕ) {n : ℕ} (e : extent s ≡ Some n) where
+  abbrev pub state : InForm s
+  state = (formed_exactly s).0 (extent_formed s e)
+
   abbrev own : List ℕ
-  own = state_of f.pattern f.next f.memory
+  own = state_of state.pattern state.next state.memory
 
-  own_long : length own ≡ extent s
-  own_long = omega (arith, in_form_extent s f, ap length f.same, length-append own f.beyond)
+  counted : n ≡ length s - length state.beyond
+  counted = let q : Some n ≡ Some (length s - length state.beyond) = sym e ∙ in_form_extent s state in cc
 
-  pub taken : take (extent s) s ≡ own
-  taken = ap (take (extent s)) f.same ∙ take_at own f.beyond (extent s) own_long
+  own_long : length own ≡ n
+  own_long = omega (arith, counted, ap length state.same, length-append own state.beyond)
 
-  pub beyond_is : drop (extent s) s ≡ f.beyond
-  beyond_is = ap (drop (extent s)) f.same ∙ drop_at own f.beyond (extent s) own_long
+  pub extent_le : n ≤ length s
+  extent_le = omega (arith, counted)
+
+  taken : take n s ≡ own
+  taken = ap (take n) state.same ∙ take_at own state.beyond n own_long
+
+  pub beyond_is : drop n s ≡ state.beyond
+  beyond_is = ap (drop n) state.same ∙ drop_at own state.beyond n own_long
 
   -- the state alone
-  abbrev pub alone : InForm (take (extent s) s)
+  abbrev alone : InForm (take n s)
   alone = record {
-    pattern = f.pattern;
-    next = f.next;
-    memory = f.memory;
+    pattern = state.pattern;
+    next = state.next;
+    memory = state.memory;
     beyond = [];
-    bodied = f.bodied;
-    early = f.early;
-    form = f.form;
+    bodied = state.bodied;
+    early = state.early;
+    form = state.form;
     same = taken ∙ sym (append-nil own);
   }
 
--- by the form judged
-module _ (s : List ℕ) (q : formed s ≡ true) where
-  f : InForm s
-  f = (formed_exactly s).0 q
+  pub alone_formed : formed (take n s) ≡ true
+  alone_formed = (formed_exactly (take n s)).1 alone
 
-  pub extent_le : extent s ≤ length s
-  extent_le = omega (arith, in_form_extent s f)
+  pub alone_next : next_of (take n s) ≡ next_of s
+  alone_next = next_word alone ∙ sym (next_word state)
 
-  pub alone_formed : formed (take (extent s) s) ≡ true
-  alone_formed = (formed_exactly (take (extent s) s)).1 (alone f)
-
-  pub alone_next : next_of (take (extent s) s) ≡ next_of s
-  alone_next = next_word (alone f) ∙ sym (next_word f)
-
-  pub alone_beyond : (g : InForm (take (extent s) s)) → g.beyond ≡ []
-  alone_beyond g = same_beyond g (alone f)
+  pub alone_beyond : (g : InForm (take n s)) → g.beyond ≡ []
+  alone_beyond g = same_beyond g alone

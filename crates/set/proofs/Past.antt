@@ -1,8 +1,8 @@
 -- The states of a set, one after the other: what lies past n of them is fixed by the words, so a set has one fault at most. Assumes nothing.
+use Rattle.std.specs.Prelude.{Some}
 use Prim.Native.Nat.{ℕ, zero, suc, ◌≤◌, ◌<◌}
 use mathlib.Core.Path.{◌≡◌, refl, sym, ap, subst, ◌∙◌}
 use mathlib.Core.List.{List, [], ◌++◌, append-nil}
-use mathlib.Core.Option.{some}
 use native.Mathlib.Decide.{dec_lt}
 use native.Mathlib.Omega.{arith}
 use lib.ListN.{length, take, length-append}
@@ -20,7 +20,7 @@ use Rattle.watcher.proofs.Judges.{in_form_cells}
 -- states with the same words have the same words beyond, and the same next tick allowed
 beyond_by : {r r' : List ℕ} → r ≡ r' → (f : InForm r) (g : InForm r') → f.beyond ≡ g.beyond
 beyond_by {r} {r'} e f g =
-    let q : some f.beyond ≡ some g.beyond = sym (in_form_cells r f) ∙ ap judged e ∙ in_form_cells r' g in cc
+    let q : Some f.beyond ≡ Some g.beyond = sym (in_form_cells r f) ∙ ap judged e ∙ in_form_cells r' g in cc
 
 next_by : {r r' : List ℕ} → r ≡ r' → (f : InForm r) (g : InForm r') → f.next ≡ g.next
 next_by e f g = sym (next_word f) ∙ ap next_of e ∙ next_word g

@@ -2,18 +2,16 @@
 use Prim.Native.Nat.{ℕ, suc, ◌+◌, ◌-◌, ◌≤◌, ◌<◌}
 use mathlib.Core.Path.{◌≡◌, refl, sym, ap, subst, ◌∙◌}
 use mathlib.Core.List.{List, [], ◌∷◌, ◌++◌, append_assoc, append-nil}
-use native.Mathlib.Nat.{sub-zero}
 use native.Mathlib.Numerals.{add-one}
 use native.Mathlib.Omega.{arith}
 use lib.ListN.{length, get_or, take, drop, set, length-set, length-drop, take-append-drop}
 use lib.Seq.{drop-set-lt, take-suc-set}
 use borrow.Rule.Slice.PartMut.{mid_of, put_mid, same_len_mid, Post-is, mid_len, drop_put}
 use Rattle.watcher.specs.Answer.{TickReady, IsTicked}
-use Rattle.watcher.specs.inner.Walk.{extent}
-use Rattle.set.specs.Set.{SetTicked, none, more, Few, IsSetTicked}
+use Rattle.set.specs.Set.{SetTicked, none, more}
 use Rattle.set.specs.inner.Calls.{PartReady, Ready, Done}
 use Rattle.watcher.proofs.Calls.{tick_ready}
-use Rattle.set.proofs.Lent.{put_front}
+use Rattle.std.proofs.lemmas.Slice.{take-put_mid}
 use Rattle.set.proofs.Parts.{extent_le, alone_formed, alone_next, alone_beyond}
 
 -- before state i: s is the slice and new the answers, so far
@@ -25,19 +23,6 @@ pub record Stepping (n : ℕ) (s₀ : List ℕ) (t w : ℕ) (ends old s new : Li
   pub ahead : drop (get_or ends i 0) s ≡ drop (get_or ends i 0) s₀
   pub rest : (r l : List ℕ) → SetTicked t w (n - i) (drop (get_or ends i 0) s₀) r l → SetTicked t w n s₀ (take (get_or ends i 0) s ++ r) (take i new ++ l)
   pub kept : drop n new ≡ drop n old
-
-pub stepping_start : {n : ℕ} {s : List ℕ} {t : ℕ} {ends old : List ℕ} (w : ℕ) → Ready n s t ends old → Stepping n s t w ends old s old 0
-stepping_start {n} {s} {t} w r =
-    let z = r.parts.first in
-    record {
-      inside = omega arith;
-      state_long = refl;
-      long = refl;
-      within = omega arith;
-      ahead = refl;
-      rest = λ m l x. rw z (simp sub-zero at (rw z at x));
-      kept = refl;
-    }
 
 module _ {n : ℕ} {s₀ : List ℕ} {t w : ℕ} {ends old s new : List ℕ} {i : ℕ} (r : Ready n s₀ t ends old)
     (x : Stepping n s₀ t w ends old s new i) where
@@ -64,40 +49,44 @@ module _ {n : ℕ} {s₀ : List ℕ} {t w : ℕ} {ends old s new : List ℕ} {i 
     abbrev ahead : List ℕ
     ahead = drop at s₀
 
-    part : PartReady s₀ t at end
+    abbrev part : PartReady s₀ t at end
     part = r.parts.each i h
 
-    words : end - at ≡ extent ahead
-    words = omega (arith, part.end)
+    -- the words of state i
+    abbrev own : ℕ
+    own = part.part.words
+
+    words : end - at ≡ own
+    words = omega (arith, part.part.end)
 
     pub stepping_ends : at ≤ end
-    stepping_ends = omega (arith, part.end)
+    stepping_ends = omega (arith, part.part.end)
 
     pub stepping_within : end ≤ length s
-    stepping_within = omega (arith, part.end, extent_le ahead part.form, length-drop at s₀, x.within, x.state_long)
+    stepping_within = omega (arith, part.part.end, extent_le ahead part.part.form, length-drop at s₀, x.within, x.state_long)
 
-    mine : mid_of at (end - at) s ≡ take (extent ahead) ahead
+    mine : mid_of at (end - at) s ≡ take own ahead
     mine = rw (words, x.ahead)
 
     -- it takes the tick
     pub stepping_ready : TickReady (mid_of at (end - at) s) t
     stepping_ready =
-        rw mine (tick_ready r.range (alone_formed ahead part.form) (omega (arith, alone_next ahead part.form, part.late)))
+        rw mine (tick_ready r.range (alone_formed ahead part.part.form) (omega (arith, alone_next ahead part.part.form, part.late)))
 
     module _ (p : List ℕ) (a : ℕ) (d : IsTicked (mid_of at (end - at) s) p t w a) (l : length p ≡ length (mid_of at (end - at) s)) where
-      ticked : IsTicked (take (extent ahead) ahead) p t w a
+      ticked : IsTicked (take own ahead) p t w a
       ticked = rw mine at d
 
       length_part : length p ≡ end - at
       length_part = l ∙ mid_len at end s stepping_within
 
-      split : ahead ≡ take (extent ahead) ahead ++ drop end s₀
+      split : ahead ≡ take own ahead ++ drop end s₀
       split =
-          sym (take-append-drop (extent ahead) ahead)
-          ∙ ap (λ (z : List ℕ). take (extent ahead) ahead ++ z) (rw (← words) (Post-is at end s₀ stepping_ends))
+          sym (take-append-drop own ahead)
+          ∙ ap (λ (z : List ℕ). take own ahead ++ z) (rw (← words) (Post-is at end s₀ stepping_ends))
 
       front : take end (put_mid at (end - at) s p) ≡ take at s ++ p
-      front = put_front at end s p stepping_ends stepping_within length_part
+      front = take-put_mid at (end - at) s p end (omega (arith, length_part, stepping_ends)) (omega (arith, stepping_ends, stepping_within))
 
       -- it is stepped, and its answer written
       pub stepping_more : Stepping n s₀ t w ends old (put_mid at (end - at) s p) (set new i a) (i + 1)
@@ -120,19 +109,7 @@ module _ {n : ℕ} {s₀ : List ℕ} {t w : ℕ} {ends old s new : List ℕ} {i 
           more_rest m k y =
               let e : n - i ≡ suc (n - (i + 1)) = omega arith in
               let u : SetTicked t w (n - i) ahead (p ++ m) (a ∷ k) =
-              rw e (more ticked (alone_beyond ahead part.form ticked.form) y split refl) in
+              rw e (more ticked (alone_beyond ahead part.part.form ticked.form) y split refl) in
               let j : i < length new = omega (arith, x.long, r.room) in
               rw (front, append_assoc (take at s) p, add-one i, take-suc-set new i a j, append_assoc (take i new) (a ∷ []))
               (x.rest (p ++ m) (a ∷ k) u)
-
--- so the set took the tick
-pub set_taken : {n : ℕ} {s : List ℕ} {t w : ℕ} {ends old s' new : List ℕ} → Few n → Ready n s t ends old → Done n s t w old s' new
-    → IsSetTicked n s old t w s' new
-set_taken {n} {s} {t} {w} {ends} {old} {s'} {new} f r d = record {
-  few = f;
-  room = r.room;
-  range = r.range;
-  answers = take n new;
-  taken = d.taken;
-  words = sym (take-append-drop n new) ∙ ap (λ (l : List ℕ). take n new ++ l) d.kept;
-}

@@ -1,4 +1,5 @@
 -- Each claim of specs/Claim, proved. Assumes nothing.
+use Rattle.std.specs.Prelude.{Err, Ok}
 use Prim.Native.Nat.{ℕ, zero, suc}
 use mathlib.Core.Path.{◌≡◌, refl, sym, ap, ap₂, subst, ◌∙◌}
 use mathlib.Core.List.{List, [], ◌∷◌, ◌++◌}
@@ -13,12 +14,8 @@ use Rattle.rules.specs.History.{Tick}
 use Rattle.refusal.specs.declared.Refusal.{Refusal}
 use Rattle.body.specs.Postfix.{encode, Bodied}
 use Rattle.body.proofs.Bodies.{one_pattern, length_encode}
-use Rattle.file.specs.declared.FileCheck.TheVariants as Checked
 use Rattle.file.specs.Check.{file_check}
 use Rattle.file.proofs.Theorem.{one_way}
-use Rattle.watcher.specs.declared.Needed.TheVariants as Needs
-use Rattle.watcher.specs.declared.Opening.TheVariants as Opens
-use Rattle.set.specs.declared.SetTicking.TheVariants.{Ticked, Refused}
 use Rattle.set.specs.Set.{SetTicked, IsSetTicked, SetRefused, many, short, over, fault}
 use Rattle.set.specs.Set as Sets
 use Rattle.set.specs.File.{sizes, bodies_of, rooms_of, states_of, Holds, IsSetOpened, SetOpenRefused}
@@ -56,7 +53,7 @@ one_holds {f} {es} {es'} h h' =
     same_patterns es es' h.bodied h'.bodied k.1 k.2
 
 -- a file that holds patterns is not refused
-holds_refused : {f : List ℕ} {es : List Pattern} {r : Refusal} → Holds f es → file_check f ≡ Checked.Refused r → ⊥
+holds_refused : {f : List ℕ} {es : List Pattern} {r : Refusal} → Holds f es → file_check f ≡ Err r → ⊥
 holds_refused h q = let k = holds_sound h in impossible cc
 
 -- a set that was opened and then only ticked
@@ -75,8 +72,8 @@ pub set_alone : SetAlone
 set_alone f es h s x = alones_each es (watched_alones f es x)
 
 pub set_agrees : SetAgrees
-set_agrees f es h s x s' old new t w Ticked l k m i = (refl, i.answers, i.words, alones_right es (watched_alones f es x) l i.taken)
-set_agrees f es h s x s' old new t w (Refused r) l k m i = absurd (not_refused i.0)
+set_agrees f es h s x s' old new t w (Ok _) l k m i = (refl, i.answers, i.words, alones_right es (watched_alones f es x) l i.taken)
+set_agrees f es h s x s' old new t w (Err r) l k m i = absurd (not_refused i.0)
   where
     not_refused : SetRefused (length es) s old t r → ⊥
     not_refused (many n q) = n (holds_few (watched_holds x))
@@ -122,13 +119,13 @@ one_set_refusal (fault c u v q) (over c' u' v' q') = absurd (omega arith)
 one_set_refusal (fault c u v q) (fault c' u' v' q') = one_fault q q'
 
 pub one_set_tick : OneSetTick
-one_set_tick count s old s' s'' new new' t w Ticked Ticked i j =
+one_set_tick count s old s' s'' new new' t w (Ok _) (Ok _) i j =
     let o = one_taken count i.taken j.taken in
     (refl, o.0, i.words ∙ ap (λ (l : List ℕ). l ++ drop count old) o.1 ∙ sym j.words)
-one_set_tick count s old s' s'' new new' t w Ticked (Refused r) i j = absurd (taken_refused i j.0)
-one_set_tick count s old s' s'' new new' t w (Refused r) Ticked i j = absurd (taken_refused j i.0)
-one_set_tick count s old s' s'' new new' t w (Refused r) (Refused r') i j =
-    (ap Refused (one_set_refusal i.0 j.0), i.1 ∙ sym j.1, i.2 ∙ sym j.2)
+one_set_tick count s old s' s'' new new' t w (Ok _) (Err r) i j = absurd (taken_refused i j.0)
+one_set_tick count s old s' s'' new new' t w (Err r) (Ok _) i j = absurd (taken_refused j i.0)
+one_set_tick count s old s' s'' new new' t w (Err r) (Err r') i j =
+    (ap Err (one_set_refusal i.0 j.0), i.1 ∙ sym j.1, i.2 ∙ sym j.2)
 
 -- opening a set
 opened_refused : {f old new : List ℕ} {r : Refusal} → IsSetOpened f old new → SetOpenRefused f old r → ⊥
@@ -142,15 +139,15 @@ one_opening_refusal (Files.short es h l k) (Files.unsound q) = absurd (holds_ref
 one_opening_refusal (Files.short es h l k) (Files.short es' h' l' k') = k ∙ rw (one_holds h h') (sym k')
 
 pub one_set_opening : OneSetOpening
-one_set_opening f old new new' Opens.Opened Opens.Opened o o' =
+one_set_opening f old new new' (Ok _) (Ok _) o o' =
     (refl, o.words ∙ ap (λ (l : List Pattern). states_of l ++ drop (rooms_of l) old) (one_holds o.file o'.file) ∙ sym o'.words)
-one_set_opening f old new new' Opens.Opened (Opens.Refused r) o x = absurd (opened_refused o x.0)
-one_set_opening f old new new' (Opens.Refused r) Opens.Opened x o = absurd (opened_refused o x.0)
-one_set_opening f old new new' (Opens.Refused r) (Opens.Refused r') x x' =
-    (ap Opens.Refused (one_opening_refusal x.0 x'.0), x.1 ∙ sym x'.1)
+one_set_opening f old new new' (Ok _) (Err r) o x = absurd (opened_refused o x.0)
+one_set_opening f old new new' (Err r) (Ok _) x o = absurd (opened_refused o x.0)
+one_set_opening f old new new' (Err r) (Err r') x x' =
+    (ap Err (one_opening_refusal x.0 x'.0), x.1 ∙ sym x'.1)
 
 pub one_set_room : OneSetRoom
-one_set_room f (Needs.Words n) (Needs.Words n') x x' = ap Needs.Words (x.2 ∙ ap rooms_of (one_holds x.1 x'.1) ∙ sym x'.2)
-one_set_room f (Needs.Words n) (Needs.Refused r) x q = absurd (holds_refused x.1 q)
-one_set_room f (Needs.Refused r) (Needs.Words n) q x = absurd (holds_refused x.1 q)
-one_set_room f (Needs.Refused r) (Needs.Refused r') q q' = cc
+one_set_room f (Ok n) (Ok n') x x' = ap Ok (x.2 ∙ ap rooms_of (one_holds x.1 x'.1) ∙ sym x'.2)
+one_set_room f (Ok n) (Err r) x q = absurd (holds_refused x.1 q)
+one_set_room f (Err r) (Ok n) q x = absurd (holds_refused x.1 q)
+one_set_room f (Err r) (Err r') q q' = cc

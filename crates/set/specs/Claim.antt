@@ -1,14 +1,11 @@
 -- What is claimed of sets: each pattern is watched as if alone, so its reports are the rules' own; and no second outcome meets a promise. Assumes nothing: these are definitions.
-use Rattle.std.specs.Prelude.{◌≡◌, List, [], ◌∷◌, ◌++◌, ℕ, ◌≤◌, ◌<◌, length, drop}
+use Rattle.std.specs.Prelude.{◌≡◌, List, [], ◌∷◌, ◌++◌, ℕ, ◌≤◌, ◌<◌, length, drop, Ok, Result}
 use Rattle.rules.specs.Limits.{argument_bytes, ticks}
 use Rattle.rules.specs.Pattern.{Pattern}
 use Rattle.rules.specs.Instances.{Record, Has, Latest}
 use Rattle.rules.specs.History.{Tick, next_tick, record_of}
 use Rattle.body.specs.Postfix.{encode}
-use Rattle.watcher.specs.declared.Needed.{Needed}
-use Rattle.watcher.specs.declared.Opening.{Opening}
-use Rattle.set.specs.declared.SetTicking.{SetTicking}
-use Rattle.set.specs.declared.SetTicking.TheVariants.{Ticked}
+use Rattle.refusal.specs.declared.Refusal.{Refusal}
 use Rattle.set.specs.Set.{IsSetTicked, SetAnswers}
 use Rattle.set.specs.File.{Holds, IsSetOpened, SetRoomAnswers, SetOpenAnswers}
 use Rattle.watcher.specs.State.{room_of}
@@ -39,21 +36,21 @@ AllLatest r t (e ∷ es) (a ∷ l) = Latest (Has r e) t a × AllLatest r t es l
 abbrev pub SetAgrees : Type 0
 SetAgrees =
     (f : List ℕ) (es : List Pattern) (h : List Tick) (s : List ℕ) → SetWatched f es h s
-    → (s' old new : List ℕ) (t w : ℕ) (r : SetTicking) → next_tick 0 h ≤ t → t < ticks → length es ≤ length old
+    → (s' old new : List ℕ) (t w : ℕ) (r : Result (Unit {0}) Refusal) → next_tick 0 h ≤ t → t < ticks → length es ≤ length old
     → SetAnswers (length es) s old t w s' new r
-    → (r ≡ Ticked) × (l : List ℕ) × (new ≡ l ++ drop (length es) old) × AllLatest (record_of (h ++ ((t, w) ∷ []))) t es l
+    → (r ≡ Ok tt) × (l : List ℕ) × (new ≡ l ++ drop (length es) old) × AllLatest (record_of (h ++ ((t, w) ∷ []))) t es l
 
 -- no second answer, slice or answers meet the promise of a set's tick
 abbrev pub OneSetTick : Type 0
 OneSetTick =
-    (count : ℕ) (s old s' s'' new new' : List ℕ) (t w : ℕ) (r r' : SetTicking)
+    (count : ℕ) (s old s' s'' new new' : List ℕ) (t w : ℕ) (r r' : Result (Unit {0}) Refusal)
     → SetAnswers count s old t w s' new r → SetAnswers count s old t w s'' new' r' → (r ≡ r') × (s' ≡ s'') × (new ≡ new')
 
 -- no second answer and no second slice meet the promise of opening a set
 abbrev pub OneSetOpening : Type 0
 OneSetOpening =
-    (f old new new' : List ℕ) (r r' : Opening) → SetOpenAnswers f old new r → SetOpenAnswers f old new' r' → (r ≡ r') × (new ≡ new')
+    (f old new new' : List ℕ) (r r' : Result (Unit {0}) Refusal) → SetOpenAnswers f old new r → SetOpenAnswers f old new' r' → (r ≡ r') × (new ≡ new')
 
 -- and no second answer that of its room
 abbrev pub OneSetRoom : Type 0
-OneSetRoom = (f : List ℕ) (r r' : Needed) → SetRoomAnswers f r → SetRoomAnswers f r' → r ≡ r'
+OneSetRoom = (f : List ℕ) (r r' : Result ℕ Refusal) → SetRoomAnswers f r → SetRoomAnswers f r' → r ≡ r'

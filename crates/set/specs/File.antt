@@ -1,5 +1,5 @@
 -- A set opened from a pattern file (docs/RULES.md, "Sets" and "Refusals": 4, 5, 6, 7 of the file, then 8). Assumes nothing: these are definitions.
-use Rattle.std.specs.Prelude.{◌≡◌, List, [], ◌∷◌, ◌++◌, ℕ, ◌+◌, ◌≤◌, ◌<◌, length, drop}
+use Rattle.std.specs.Prelude.{◌≡◌, List, [], ◌∷◌, ◌++◌, ℕ, ◌+◌, ◌≤◌, ◌<◌, length, drop, Err, Ok, Result}
 use Rattle.rules.specs.Limits.{argument_bytes}
 use Rattle.rules.specs.Lists.{All}
 use Rattle.rules.specs.Pattern.{Pattern, size}
@@ -7,13 +7,8 @@ use Rattle.detector.specs.Memory.{fresh}
 use Rattle.refusal.specs.declared.Refusal.{Refusal}
 use Rattle.refusal.specs.declared.Refusal.TheVariants.{Room}
 use Rattle.body.specs.Postfix.{encode, Bodied}
-use Rattle.file.specs.declared.FileCheck.TheVariants as Checked
 use Rattle.file.specs.Check.{file_check}
 use Rattle.file.specs.Claim.{PartsOf}
-use Rattle.watcher.specs.declared.Needed.{Needed}
-use Rattle.watcher.specs.declared.Needed.TheVariants as Needs
-use Rattle.watcher.specs.declared.Opening.{Opening}
-use Rattle.watcher.specs.declared.Opening.TheVariants as Opens
 use Rattle.watcher.specs.State.{state_of, room_of}
 
 -- the numbers of entries of patterns, in order
@@ -43,9 +38,9 @@ pub record Holds (f : List ℕ) (es : List Pattern) : Type 0 where
   pub bodied : All (Bodied argument_bytes) es
 
 -- the room of a file: that of all its patterns, or the file's refusal
-abbrev pub SetRoomAnswers : List ℕ → Needed → Type 0
-SetRoomAnswers f (Needs.Words n) = (es : List Pattern) × Holds f es × (n ≡ rooms_of es)
-SetRoomAnswers f (Needs.Refused r) = file_check f ≡ Checked.Refused r
+abbrev pub SetRoomAnswers : List ℕ → Result ℕ Refusal → Type 0
+SetRoomAnswers f (Ok n) = (es : List Pattern) × Holds f es × (n ≡ rooms_of es)
+SetRoomAnswers f (Err r) = file_check f ≡ Err r
 
 -- opened: the states of the file's patterns stand first, and the words beyond are kept
 pub record IsSetOpened (f old new : List ℕ) : Type 0 where
@@ -56,10 +51,10 @@ pub record IsSetOpened (f old new : List ℕ) : Type 0 where
 
 -- opening is refused as the file is; or, where that is sound, for want of room, with the words needed
 pub data SetOpenRefused (f old : List ℕ) (r : Refusal) : Type 0 where
-  unsound : file_check f ≡ Checked.Refused r → SetOpenRefused f old r
+  unsound : file_check f ≡ Err r → SetOpenRefused f old r
   short : (es : List Pattern) → Holds f es → length old < rooms_of es → r ≡ Room (rooms_of es) → SetOpenRefused f old r
 
 -- the promise of opening a set
-abbrev pub SetOpenAnswers : List ℕ → List ℕ → List ℕ → Opening → Type 0
-SetOpenAnswers f old new Opens.Opened = IsSetOpened f old new
-SetOpenAnswers f old new (Opens.Refused r) = SetOpenRefused f old r × (new ≡ old)
+abbrev pub SetOpenAnswers : List ℕ → List ℕ → List ℕ → Result (Unit {0}) Refusal → Type 0
+SetOpenAnswers f old new (Ok _) = IsSetOpened f old new
+SetOpenAnswers f old new (Err r) = SetOpenRefused f old r × (new ≡ old)

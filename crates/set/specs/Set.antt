@@ -1,11 +1,9 @@
 -- The tick of a set (docs/RULES.md, "Sets"): each state is a part of the slice, beginning where the one before it ends.
 -- Assumes nothing: these are definitions.
-use Rattle.std.specs.Prelude.{◌≡◌, List, [], ◌∷◌, ◌++◌, ℕ, suc, ◌≤◌, ◌<◌, length, drop}
+use Rattle.std.specs.Prelude.{◌≡◌, List, [], ◌∷◌, ◌++◌, ℕ, suc, ◌≤◌, ◌<◌, length, drop, Err, Ok, Result}
 use Rattle.rules.specs.Limits.{most_patterns, ticks}
 use Rattle.refusal.specs.declared.Refusal.{Refusal}
 use Rattle.refusal.specs.declared.Refusal.TheVariants.{Count, Room, State, Range, Late}
-use Rattle.set.specs.declared.SetTicking.{SetTicking}
-use Rattle.set.specs.declared.SetTicking.TheVariants.{Ticked, Refused}
 use Rattle.watcher.specs.State.{InForm}
 use Rattle.watcher.specs.Answer.{IsTicked}
 
@@ -46,6 +44,6 @@ pub data SetRefused (count : ℕ) (s old : List ℕ) (t : ℕ) (r : Refusal) : T
   fault : Few count → count ≤ length old → t < ticks → Fault count s t r → SetRefused count s old t r
 
 -- the promise of a set's tick: the states s and the answers as they were, then as they are
-abbrev pub SetAnswers : ℕ → List ℕ → List ℕ → ℕ → ℕ → List ℕ → List ℕ → SetTicking → Type 0
-SetAnswers count s old t w s' new Ticked = IsSetTicked count s old t w s' new
-SetAnswers count s old t w s' new (Refused r) = SetRefused count s old t r × (s' ≡ s) × (new ≡ old)
+abbrev pub SetAnswers : ℕ → List ℕ → List ℕ → ℕ → ℕ → List ℕ → List ℕ → Result (Unit {0}) Refusal → Type 0
+SetAnswers count s old t w s' new (Ok _) = IsSetTicked count s old t w s' new
+SetAnswers count s old t w s' new (Err r) = SetRefused count s old t r × (s' ≡ s) × (new ≡ old)

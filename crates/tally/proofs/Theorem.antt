@@ -1,4 +1,5 @@
 -- Windows added are counted and summed. Assumes nothing.
+use Rattle.std.specs.Prelude.{Ok, Err}
 use mathlib.Core.Path.{◌≡◌, ap}
 use mathlib.Core.Bool.{Bool, true, false, cond}
 use mathlib.Core.List.{◌∷◌}
@@ -8,17 +9,16 @@ use lib.ListN.{length}
 use Rattle.rules.proofs.Impossible.{impossible}
 use Rattle.refusal.specs.declared.Refusal.TheVariants.{Range, Full}
 use Rattle.tally.specs.declared.Tally.{Tally}
-use Rattle.tally.specs.declared.Adding.TheVariants.{Added, Refused}
 use Rattle.tally.specs.Tallied.{outside, more, over, added_to}
 use Rattle.tally.specs.Claim.{span, none, one, Sums}
 
 -- what is added is the window counted
-picked : (a b : Bool) (t u : Tally) → cond a (Refused (Range 0)) (cond b (Refused Full) (Added t)) ≡ Added u → t ≡ u
+picked : (a b : Bool) (t u : Tally) → cond a (Err (Range 0)) (cond b (Err Full) (Ok t)) ≡ Ok u → t ≡ u
 picked true b t u p = impossible cc
 picked false true t u p = impossible cc
 picked false false t u p = cc
 
-added_more : (t u : Tally) (start end : ℕ) → added_to t start end ≡ Added u → more t start end ≡ u
+added_more : (t u : Tally) (start end : ℕ) → added_to t start end ≡ Ok u → more t start end ≡ u
 unfolding added_to
 added_more t u start end p = picked (outside start end) (over (more t start end)) (more t start end) u p
 

@@ -1,18 +1,18 @@
 -- What the machine has read begins the text of a pattern: each state's text, and how it can be completed. Assumes nothing.
-use Rattle.std.proofs.Common.{◌≡◌, ℕ, ◌+◌, ◌*◌, ◌<◌, cond, eqb, ltb, List, [], ◌∷◌, ◌++◌, sym, refl, ap, ◌∙◌, subst, append_assoc, append-nil, arith, ltb-true, eqb-true}
-use Rattle.rules.specs.Limits.{letters}
+use Rattle.std.proofs.Common.{◌≡◌, ℕ, ◌<◌, cond, eqb, List, [], ◌∷◌, ◌++◌, Option, Some, None, sym, refl, ap, ◌∙◌, subst, append_assoc, append-nil, arith, eqb-true}
 use Rattle.rules.specs.Pattern.{Pattern, event, pair, within, Proper}
 use Rattle.decimal.specs.Decimal.{decimal}
 use Rattle.decimal.proofs.Decimals.{decimal_one, decimal_next}
 use Rattle.text.specs.Render.{numbers, op_byte, render}
 use Rattle.text.specs.Grammar.{Begins}
 use Rattle.text.specs.Characters.{letter_of, digit_of}
-use Rattle.text.specs.inner.Machine.{Frame, State, Move, grows, step, after_sign}
+use Rattle.text.specs.inner.Machine.{Frame, State, grown, step, after_sign}
 use Rattle.text.specs.inner.Machine.Frame.{first, second}
 use Rattle.text.specs.inner.Machine.State.{want, have, limit, number}
-use Rattle.text.specs.inner.Machine.Move.{none, to}
-use Rattle.decimal.proofs.Branches.{by_test}
-use Rattle.text.proofs.Bytes.{byte_letter, sign_cases, byte_digit, grows_true}
+use Rattle.decimal.proofs.Branches.{by_test, by_option}
+use Rattle.std.specs.Option.{option_map, option_map_or}
+use Rattle.text.proofs.Numbers.{grown_some}
+use Rattle.text.proofs.Bytes.{byte_letter, sign_cases, byte_digit}
 use Rattle.text.proofs.Complete.{cap_step, digit_step, shut_step}
 
 -- the text that a state has read
@@ -55,16 +55,15 @@ module _ (p : List ℕ) (c : ℕ) where
       append_assoc p (40 ∷ (x ++ (64 ∷ y))) (c ∷ []) ∙ ap (λ (w : List ℕ). p ++ (40 ∷ w)) (append_assoc x (64 ∷ y) (c ∷ []))
 
 -- a byte that leads on is the next byte of the text
-abbrev Leads : State → ℕ → Move → Type 0
-Leads σ c none = Unit {0}
-Leads σ c (to τ) = Fine τ × (sofar σ ++ (c ∷ []) ≡ sofar τ)
+abbrev Leads : State → ℕ → Option State → Type 0
+Leads σ c None = Unit {0}
+Leads σ c (Some τ) = Fine τ × (sofar σ ++ (c ∷ []) ≡ sofar τ)
 
 leads : (σ : State) (c : ℕ) → Fine σ → Leads σ c (step σ c)
 leads (want K) c f =
-    by_test (λ b. Leads (want K) c (cond b (to (have (event (letter_of c)) K)) (cond (eqb c 40) (to (want (first ∷ K))) none)))
-    (ltb (letter_of c) letters)
-    (λ e. ((ltb-true _ _ e, f), ap (λ (w : ℕ). opens K ++ (w ∷ [])) (sym (byte_letter c (ltb-true _ _ e)))))
-    (λ e. by_test (λ b. Leads (want K) c (cond b (to (want (first ∷ K))) none)) (eqb c 40)
+    by_option (λ o. Leads (want K) c (option_map_or (λ n. Some (have (event n) K)) o (cond (eqb c 40) (Some (want (first ∷ K))) None))) (letter_of c)
+    (λ n e. let h = byte_letter c n e in ((h.0, f), ap (λ (w : ℕ). opens K ++ (w ∷ [])) (sym h.1)))
+    (λ e. by_test (λ b. Leads (want K) c (cond b (Some (want (first ∷ K))) None)) (eqb c 40)
     (λ q. (f, ap (λ (w : ℕ). opens K ++ (w ∷ [])) (eqb-true _ _ q)))
     (λ q. tt))
 leads (have e []) c f = tt
@@ -73,7 +72,7 @@ leads (have x (first ∷ K)) c f =
     (λ q e. after_first (opens K) c (render x) ∙ ap (λ (w : ℕ). opens K ++ (40 ∷ (render x ++ (w ∷ [])))) e) in
     sign_cases (λ g. Leads (have x (first ∷ K)) c (after_sign x K g)) c (λ op e. (f, on (op_byte op) e)) (λ e. (f, on 64 e)) tt
 leads (have y (second op x ∷ K)) c f =
-    by_test (λ b. Leads (have y (second op x ∷ K)) c (cond b (to (have (pair op x y) K)) none)) (eqb c 41)
+    by_test (λ b. Leads (have y (second op x ∷ K)) c (cond b (Some (have (pair op x y) K)) None)) (eqb c 41)
     (λ q. (
       ((f.1.0, f.0), f.1.1),
       after_second (opens K) c (render x) (op_byte op) (render y)
@@ -81,24 +80,23 @@ leads (have y (second op x ∷ K)) c f =
     ))
     (λ q. tt)
 leads (limit x K) c f =
-    by_test (λ b. Leads (limit x K) c (cond b (to (number x (digit_of c) K)) none)) (ltb (digit_of c) 10)
-    (λ e. let h = ltb-true _ _ e in (
+    by_option (λ o. Leads (limit x K) c (option_map (λ d. number x d K) o)) (digit_of c)
+    (λ d e. let h = byte_digit c d e in (
       (f.0, omega arith, f.1),
       after_number (opens K) c (render x) []
-          ∙ ap (λ (w : List ℕ). opens K ++ (40 ∷ (render x ++ (64 ∷ w))))
-          (ap (λ (w : ℕ). w ∷ []) (sym (byte_digit c h)) ∙ sym (decimal_one (digit_of c) h)),
+          ∙ ap (λ (w : List ℕ). opens K ++ (40 ∷ (render x ++ (64 ∷ w)))) (ap (λ (w : ℕ). w ∷ []) (sym h.1) ∙ sym (decimal_one d h.0)),
     ))
     (λ e. tt)
 leads (number x v K) c f =
-    by_test (λ b. Leads (number x v K) c (cond b (to (number x (v * 10 + digit_of c) K)) (cond (eqb c 41) (to (have (within x v) K)) none)))
-    (grows v c)
-    (λ e. let g = grows_true v c e in (
-      (f.0, g.2, f.2),
+    by_option (λ o. Leads (number x v K) c (option_map_or (λ w. Some (number x w K)) o (cond (eqb c 41) (Some (have (within x v) K)) None))) (grown v c)
+    (λ w e. let g = grown_some v c w e in
+    let h = byte_digit c g.0 g.1 in (
+      (f.0, g.4, f.2),
       after_number (opens K) c (render x) (decimal v)
-          ∙ ap (λ (w : List ℕ). opens K ++ (40 ∷ (render x ++ (64 ∷ w))))
-          (ap (λ (w : ℕ). decimal v ++ (w ∷ [])) (sym (byte_digit c g.0)) ∙ sym (decimal_next v (digit_of c) g.1 g.0)),
+          ∙ ap (λ (u : List ℕ). opens K ++ (40 ∷ (render x ++ (64 ∷ u))))
+          (ap (λ (u : ℕ). decimal v ++ (u ∷ [])) (sym h.1) ∙ sym (decimal_next v g.0 g.2 h.0) ∙ ap decimal (sym g.3)),
     ))
-    (λ e. by_test (λ b. Leads (number x v K) c (cond b (to (have (within x v) K)) none)) (eqb c 41)
+    (λ e. by_test (λ b. Leads (number x v K) c (cond b (Some (have (within x v) K)) None)) (eqb c 41)
     (λ q. (
       ((f.0, f.1), f.2),
       after_number (opens K) c (render x) (decimal v)
@@ -106,11 +104,11 @@ leads (number x v K) c f =
     ))
     (λ q. tt))
 
-pub leads_to : (σ τ : State) (c : ℕ) → Fine σ → step σ c ≡ to τ → Fine τ × (sofar σ ++ (c ∷ []) ≡ sofar τ)
+pub leads_to : (σ τ : State) (c : ℕ) → Fine σ → step σ c ≡ Some τ → Fine τ × (sofar σ ++ (c ∷ []) ≡ sofar τ)
 leads_to σ τ c f e = subst (Leads σ c) e (leads σ c f)
 
 -- what a state has read can be gone on with, to the text of a pattern
-back : (σ τ : State) (c : ℕ) → Fine σ → step σ c ≡ to τ → Begins (sofar τ) → Begins (sofar σ)
+back : (σ τ : State) (c : ℕ) → Fine σ → step σ c ≡ Some τ → Begins (sofar τ) → Begins (sofar σ)
 back σ τ c f e b = record {
   tree = b.tree;
   rest = c ∷ b.rest;
@@ -130,7 +128,7 @@ begins_have (first ∷ K) e f =
 begins_have (second op x ∷ K) e f =
     back (have e (second op x ∷ K)) (have (pair op x e) K) 41 f refl (begins_have K (pair op x e) ((f.1.0, f.0), f.1.1))
 
-a_letter : (K : List Frame) → step (want K) 65 ≡ to (have (event 0) K)
+a_letter : (K : List Frame) → step (want K) 65 ≡ Some (have (event 0) K)
 unfolding letter_of
 a_letter K = refl
 

@@ -1,5 +1,5 @@
 -- The machine reads the text of every pattern. Assumes nothing.
-use Rattle.std.proofs.Common.{◌≡◌, ℕ, zero, suc, ◌+◌, ◌-◌, ◌*◌, ◌/◌, ◌%◌, ◌<◌, List, [], ◌∷◌, ◌++◌, sym, refl, ap, ◌∙◌, append_assoc, append-nil, arith, lt-ltb}
+use Rattle.std.proofs.Common.{◌≡◌, ℕ, zero, suc, ◌+◌, ◌-◌, ◌*◌, ◌/◌, ◌%◌, ◌<◌, List, [], ◌∷◌, ◌++◌, Option, Some, sym, refl, ap, ◌∙◌, append_assoc, append-nil, arith, Ok}
 use Rattle.rules.specs.declared.Op.{Op}
 use Rattle.rules.specs.Limits.{letters}
 use Rattle.rules.specs.Pattern.{Pattern, event, pair, within, Proper}
@@ -8,43 +8,41 @@ use Rattle.decimal.proofs.Decimals.{tens, decimal_one, decimal_last}
 use Rattle.text.specs.Render.{numbers, most_digits, letter_byte, op_byte, render}
 use Rattle.text.specs.Grammar.{TextOf}
 use Rattle.text.specs.Characters.{letter_of, digit_of}
-use Rattle.text.specs.inner.Machine.{Frame, State, Move, sign_of, grows, step, after_sign, follow, run}
+use Rattle.text.specs.inner.Machine.{Frame, State, sign_of, grown, step, after_sign, follow, run}
 use Rattle.text.specs.inner.Machine.Frame.{first, second}
 use Rattle.text.specs.inner.Machine.State.{want, have, limit, number}
-use Rattle.text.specs.inner.Machine.Outcome.{whole}
-use Rattle.text.specs.inner.Machine.Move.{to}
 use Rattle.decimal.proofs.Branches.{either_way}
-use Rattle.text.proofs.Numbers.{grows_on}
+use Rattle.text.proofs.Numbers.{grown_on}
 use Rattle.text.proofs.Bytes.{letter_of_byte, sign_byte, digit_byte}
 
 -- one byte that leads on
-pub on : (σ τ : State) (c : ℕ) (t : List ℕ) → step σ c ≡ to τ → run σ (c ∷ t) ≡ run τ t
+pub on : (σ τ : State) (c : ℕ) (t : List ℕ) → step σ c ≡ Some τ → run σ (c ∷ t) ≡ run τ t
 unfolding run
-on σ τ c t e = ap (λ (m : Move). follow m (λ υ. run υ t) (c ∷ t)) e
+on σ τ c t e = ap (λ (m : Option State). follow m (λ υ. run υ t) (c ∷ t)) e
 
-open_step : (K : List Frame) → step (want K) 40 ≡ to (want (first ∷ K))
+open_step : (K : List Frame) → step (want K) 40 ≡ Some (want (first ∷ K))
 unfolding letter_of
 open_step K = refl
 
-letter_step : (n : ℕ) (K : List Frame) → n < letters → step (want K) (letter_byte n) ≡ to (have (event n) K)
-letter_step n K h = simp (letter_of_byte n h, lt-ltb n letters h)
+letter_step : (n : ℕ) (K : List Frame) → n < letters → step (want K) (letter_byte n) ≡ Some (have (event n) K)
+letter_step n K h = simp (letter_of_byte n h)
 
-sign_step : (op : Op) (x : Pattern) (K : List Frame) → step (have x (first ∷ K)) (op_byte op) ≡ to (want (second op x ∷ K))
+sign_step : (op : Op) (x : Pattern) (K : List Frame) → step (have x (first ∷ K)) (op_byte op) ≡ Some (want (second op x ∷ K))
 sign_step op x K = ap (after_sign x K) (sign_byte op)
 
-pub cap_step : (x : Pattern) (K : List Frame) → step (have x (first ∷ K)) 64 ≡ to (limit x K)
+pub cap_step : (x : Pattern) (K : List Frame) → step (have x (first ∷ K)) 64 ≡ Some (limit x K)
 unfolding sign_of
 cap_step x K = refl
 
-pub digit_step : (n : ℕ) (x : Pattern) (K : List Frame) → n < 10 → step (limit x K) (n + 48) ≡ to (number x n K)
-digit_step n x K h = simp (digit_byte n h, lt-ltb n 10 h)
+pub digit_step : (n : ℕ) (x : Pattern) (K : List Frame) → n < 10 → step (limit x K) (n + 48) ≡ Some (number x n K)
+digit_step n x K h = simp (digit_byte n h)
 
 more_step : (v d : ℕ) (x : Pattern) (K : List Frame) → d < 10 → 0 < v → v * 10 + d < numbers
-    → step (number x v K) (d + 48) ≡ to (number x (v * 10 + d) K)
-more_step v d x K h p q = simp (grows_on v (d + 48) (omega (arith, digit_byte d h)) p (omega (arith, digit_byte d h)), digit_byte d h)
+    → step (number x v K) (d + 48) ≡ Some (number x (v * 10 + d) K)
+more_step v d x K h p q = simp (grown_on v (d + 48) d (digit_byte d h) p q)
 
-pub shut_step : (x : Pattern) (v : ℕ) (K : List Frame) → step (number x v K) 41 ≡ to (have (within x v) K)
-unfolding grows digit_of
+pub shut_step : (x : Pattern) (v : ℕ) (K : List Frame) → step (number x v K) 41 ≡ Some (have (within x v) K)
+unfolding grown digit_of
 shut_step x v K = refl
 
 -- the digits of a number are read as that number
@@ -83,6 +81,6 @@ complete (within x n) K t h =
     ∙ numbered (most_digits - 1) n x K (41 ∷ t) (omega (arith, h.1)) h.1
     ∙ on (number x n K) (have (within x n) K) 41 t (shut_step x n K)
 
-pub complete_whole : (s : List ℕ) (e : Pattern) → TextOf s e → run (want []) s ≡ whole e
+pub complete_whole : (s : List ℕ) (e : Pattern) → TextOf s e → run (want []) s ≡ Ok e
 unfolding run
 complete_whole s e h = ap (run (want [])) (h.same ∙ sym (append-nil (render e))) ∙ complete e [] [] h.proper

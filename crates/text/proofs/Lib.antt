@@ -1,7 +1,8 @@
 -- bytes and numbers
 pub mod Steps
-pub mod Numbers
 pub mod Bytes
+pub mod Numbers
+pub mod Copies
 -- reading
 pub mod Entries
 pub mod Ways

@@ -1,15 +1,13 @@
 -- Where the machine stops, nothing longer begins a pattern's text; where it ends whole, the text is that of its pattern. So a text has
 -- one pattern, and a broken text one place. Assumes nothing.
-use Rattle.std.proofs.Common.{◌≡◌, ℕ, suc, ◌+◌, ◌-◌, ◌<◌, ◌≤◌, List, [], ◌∷◌, ◌++◌, length, take, drop, sym, refl, ap, ◌∙◌, subst, ap₂, append_assoc, append-nil, arith, length-append, length-drop}
+use Rattle.std.proofs.Common.{◌≡◌, ℕ, suc, ◌+◌, ◌-◌, ◌<◌, ◌≤◌, List, [], ◌∷◌, ◌++◌, length, take, drop, Option, Some, None, sym, refl, ap, ◌∙◌, subst, ap₂, append_assoc, append-nil, arith, length-append, length-drop, Result, Ok, Err}
 use lib.Seq.{take-append_seam, take-append-add, drop-append_seam}
 use Rattle.rules.proofs.Impossible.{impossible}
 use Rattle.rules.specs.Pattern.{Pattern, Proper}
 use Rattle.text.specs.Render.{numbers, render}
 use Rattle.text.specs.Grammar.{TextOf, Begins, Broken}
-use Rattle.text.specs.inner.Machine.{State, Outcome, Move, step, ended, follow, run}
+use Rattle.text.specs.inner.Machine.{State, step, ended, follow, run}
 use Rattle.text.specs.inner.Machine.State.{want, have, limit, number}
-use Rattle.text.specs.inner.Machine.Outcome.{whole, stopped}
-use Rattle.text.specs.inner.Machine.Move.{none, to}
 use Rattle.decimal.proofs.Branches.{either_way}
 use Rattle.text.proofs.Complete.{on, complete_whole}
 use Rattle.text.proofs.Begun.{sofar, Fine, leads_to, begins_state}
@@ -22,9 +20,9 @@ record Stop (σ : State) (s r : List ℕ) : Type 0 where
   split : s ≡ read ++ r
   text : sofar σ ++ read ≡ sofar state
   follows : (t : List ℕ) → run σ (read ++ t) ≡ run state t
-  stays : (b : ℕ) (t : List ℕ) → r ≡ b ∷ t → step state b ≡ none
+  stays : (b : ℕ) (t : List ℕ) → r ≡ b ∷ t → step state b ≡ None
 
-ended_nil : (σ : State) (r : List ℕ) → ended σ ≡ stopped r → r ≡ []
+ended_nil : (σ : State) (r : List ℕ) → ended σ ≡ Err r → r ≡ []
 ended_nil (want K) r e = cc
 ended_nil (have x []) r e = impossible cc
 ended_nil (have x (f ∷ K)) r e = cc
@@ -34,7 +32,7 @@ ended_nil (number x v K) r e = cc
 nil_cons : (r : List ℕ) (b : ℕ) (t : List ℕ) → r ≡ [] → r ≡ b ∷ t → ⊥
 nil_cons r b t p q = impossible cc
 
-stop : (s : List ℕ) (σ : State) (r : List ℕ) → Fine σ → run σ s ≡ stopped r → Stop σ s r
+stop : (s : List ℕ) (σ : State) (r : List ℕ) → Fine σ → run σ s ≡ Err r → Stop σ s r
 unfolding run
 stop [] σ r f e =
     let n : r ≡ [] = ended_nil σ r e in
@@ -49,9 +47,9 @@ stop [] σ r f e =
     }
 stop (c ∷ s) σ r f e = go (λ τ g q. stop s τ r g q) (step σ c) refl
   where
-    go : ((τ : State) → Fine τ → run τ s ≡ stopped r → Stop τ s r) → (m : Move) → step σ c ≡ m → Stop σ (c ∷ s) r
-    go again none q =
-        let here : run σ (c ∷ s) ≡ stopped (c ∷ s) = ap (λ (m : Move). follow m (λ υ. run υ s) (c ∷ s)) q in
+    go : ((τ : State) → Fine τ → run τ s ≡ Err r → Stop τ s r) → (m : Option State) → step σ c ≡ m → Stop σ (c ∷ s) r
+    go again None q =
+        let here : run σ (c ∷ s) ≡ Err (c ∷ s) = ap (λ (m : Option State). follow m (λ υ. run υ s) (c ∷ s)) q in
         let n : c ∷ s ≡ r = cc in
         record {
           state = σ;
@@ -62,7 +60,7 @@ stop (c ∷ s) σ r f e = go (λ τ g q. stop s τ r g q) (step σ c) refl
           follows = λ t. refl;
           stays = λ b t p. (let z : b ≡ c = cc in ap (step σ) z ∙ q);
         }
-    go again (to τ) q =
+    go again (Some τ) q =
         let l = leads_to σ τ c f q in
         let u = again τ l.0 (sym (on σ τ c s q) ∙ e) in
         record {
@@ -75,15 +73,15 @@ stop (c ∷ s) σ r f e = go (λ τ g q. stop s τ r g q) (step σ c) refl
           stays = u.stays;
         }
 
-no_move : (σ : State) (b : ℕ) (t : List ℕ) → step σ b ≡ none → run σ (b ∷ t) ≡ stopped (b ∷ t)
+no_move : (σ : State) (b : ℕ) (t : List ℕ) → step σ b ≡ None → run σ (b ∷ t) ≡ Err (b ∷ t)
 unfolding run
-no_move σ b t e = ap (λ (m : Move). follow m (λ υ. run υ t) (b ∷ t)) e
+no_move σ b t e = ap (λ (m : Option State). follow m (λ υ. run υ t) (b ∷ t)) e
 
-whole_stopped : (o : Outcome) (e : Pattern) (r : List ℕ) → o ≡ whole e → o ≡ stopped r → ⊥
+whole_stopped : (o : Result Pattern (List ℕ)) (e : Pattern) (r : List ℕ) → o ≡ Ok e → o ≡ Err r → ⊥
 whole_stopped o e r p q = impossible cc
 
 -- a text that the machine stops in is broken there
-pub broken : (s : List ℕ) (place : ℕ) → place ≤ length s → run (want []) s ≡ stopped (drop place s) → Broken s place
+pub broken : (s : List ℕ) (place : ℕ) → place ≤ length s → run (want []) s ≡ Err (drop place s) → Broken s place
 broken s place h e = record {
   no_text = λ x t. whole_stopped _ x _ (complete_whole s x t) e;
   inside = h;
@@ -106,13 +104,13 @@ broken s place h e = record {
         let d : m ≡ length u.read + suc j = omega (arith, size) in
         let cut : take m s ≡ u.read ++ (c ∷ take j r) =
         ap₂ take d (u.split ∙ ap (λ (w : List ℕ). u.read ++ w) q) ∙ take-append-add u.read (c ∷ r) (suc j) in
-        let runs : run (want []) (take m s ++ b.rest) ≡ stopped (c ∷ (take j r ++ b.rest)) =
+        let runs : run (want []) (take m s ++ b.rest) ≡ Err (c ∷ (take j r ++ b.rest)) =
         ap (run (want [])) (ap (λ (w : List ℕ). w ++ b.rest) cut ∙ append_assoc u.read (c ∷ take j r) b.rest)
         ∙ u.follows (c ∷ (take j r ++ b.rest)) ∙ no_move u.state c (take j r ++ b.rest) (u.stays c r q) in
         whole_stopped _ b.tree _ (complete_whole _ b.tree b.text) runs
 
 -- a text that the machine reads whole is the text of the pattern that it says
-ended_whole : (σ : State) (e : Pattern) → Fine σ → ended σ ≡ whole e → TextOf (sofar σ ++ []) e
+ended_whole : (σ : State) (e : Pattern) → Fine σ → ended σ ≡ Ok e → TextOf (sofar σ ++ []) e
 ended_whole (want K) e f q = impossible cc
 ended_whole (have x []) e f q =
     let z : x ≡ e = cc in
@@ -121,19 +119,19 @@ ended_whole (have x (g ∷ K)) e f q = impossible cc
 ended_whole (limit x K) e f q = impossible cc
 ended_whole (number x v K) e f q = impossible cc
 
-sound : (s : List ℕ) (σ : State) (e : Pattern) → Fine σ → run σ s ≡ whole e → TextOf (sofar σ ++ s) e
+sound : (s : List ℕ) (σ : State) (e : Pattern) → Fine σ → run σ s ≡ Ok e → TextOf (sofar σ ++ s) e
 unfolding run
 sound [] σ e f q = ended_whole σ e f q
 sound (c ∷ s) σ e f q = go (λ τ g p. sound s τ e g p) (step σ c) refl
   where
-    go : ((τ : State) → Fine τ → run τ s ≡ whole e → TextOf (sofar τ ++ s) e) → (m : Move) → step σ c ≡ m → TextOf (sofar σ ++ (c ∷ s)) e
-    go again none p = absurd (whole_stopped _ e (c ∷ s) q (ap (λ (m : Move). follow m (λ υ. run υ s) (c ∷ s)) p))
-    go again (to τ) p =
+    go : ((τ : State) → Fine τ → run τ s ≡ Ok e → TextOf (sofar τ ++ s) e) → (m : Option State) → step σ c ≡ m → TextOf (sofar σ ++ (c ∷ s)) e
+    go again None p = absurd (whole_stopped _ e (c ∷ s) q (ap (λ (m : Option State). follow m (λ υ. run υ s) (c ∷ s)) p))
+    go again (Some τ) p =
         let l = leads_to σ τ c f p in
         subst (λ (w : List ℕ). TextOf w e) (ap (λ (w : List ℕ). w ++ s) (sym l.1) ∙ append_assoc (sofar σ) (c ∷ []) s)
         (again τ l.0 (sym (on σ τ c s p) ∙ q))
 
-pub text_of : (s : List ℕ) (e : Pattern) → run (want []) s ≡ whole e → TextOf s e
+pub text_of : (s : List ℕ) (e : Pattern) → run (want []) s ≡ Ok e → TextOf s e
 text_of s e q = sound s (want []) e tt q
 
 -- a text has one pattern, and a broken text one place
@@ -144,8 +142,8 @@ pub one_place : (s : List ℕ) (p q : ℕ) → Broken s p → Broken s q → p �
 one_place s p q a b = omega (arith, a.longest q b.inside b.begins, b.longest p a.inside a.begins)
 
 -- the place where the machine stops
-pub stopped_at : (s r : List ℕ) → run (want []) s ≡ stopped r → Broken s (length s - length r)
-stopped_at s r e = broken s (length s - length r) (omega arith) (e ∙ ap stopped rest)
+pub stopped_at : (s r : List ℕ) → run (want []) s ≡ Err r → Broken s (length s - length r)
+stopped_at s r e = broken s (length s - length r) (omega arith) (e ∙ ap Err rest)
   where
     u : Stop (want []) s r
     u = stop s (want []) r tt e

@@ -1,13 +1,11 @@
 -- How the machine of `specs/inner/Machine.antt` moves along a text that is read by index. Assumes nothing.
-use Rattle.std.proofs.Common.{◌≡◌, ℕ, ◌+◌, ◌<◌, ◌≤◌, Bool, true, false, cond, eqb, List, [], ◌∷◌, length, get_or, drop, sym, refl, ap, ◌∙◌, subst, drop_of_length-le, eq-eqb, ne_eqb}
+use Rattle.std.proofs.Common.{◌≡◌, ℕ, ◌+◌, ◌<◌, ◌≤◌, Bool, true, false, cond, eqb, Option, Some, None, List, [], ◌∷◌, length, get_or, drop, sym, refl, ap, ◌∙◌, subst, drop_of_length-le, eq-eqb, ne_eqb, Err}
 use Rattle.rules.proofs.Lists.{drop_at}
 use Rattle.rules.specs.declared.Op.{Op}
 use Rattle.rules.specs.Pattern.{Pattern, pair, within}
-use Rattle.text.specs.inner.Machine.{Frame, State, Move, grows, step, ended, follow, run, shut}
+use Rattle.text.specs.inner.Machine.{Frame, State, grown, step, ended, follow, run, shut}
 use Rattle.text.specs.inner.Machine.Frame.{second}
 use Rattle.text.specs.inner.Machine.State.{have, number}
-use Rattle.text.specs.inner.Machine.Outcome.{stopped}
-use Rattle.text.specs.inner.Machine.Move.{none, to}
 use Rattle.decimal.proofs.Branches.{either_way, either_is}
 
 run_cons : (σ : State) (c : ℕ) (t l : List ℕ) → l ≡ c ∷ t → run σ l ≡ follow (step σ c) (λ τ. run τ t) l
@@ -15,36 +13,36 @@ unfolding run
 run_cons σ c t l e = subst (λ (m : List ℕ). run σ m ≡ follow (step σ c) (λ τ. run τ t) m) (sym e) refl
 
 module _ (s : List ℕ) (i : ℕ) where
-  pub run_to : (σ τ : State) → i < length s → step σ (get_or s i 0) ≡ to τ → run σ (drop i s) ≡ run τ (drop (i + 1) s)
+  pub run_to : (σ τ : State) → i < length s → step σ (get_or s i 0) ≡ Some τ → run σ (drop i s) ≡ run τ (drop (i + 1) s)
   run_to σ τ h e =
-      run_cons σ _ _ _ (drop_at s i h) ∙ ap (λ (m : Move). follow m (λ τ. run τ (drop (i + 1) s)) (drop i s)) e
+      run_cons σ _ _ _ (drop_at s i h) ∙ ap (λ (m : Option State). follow m (λ τ. run τ (drop (i + 1) s)) (drop i s)) e
 
-  pub run_no : (σ : State) → i < length s → step σ (get_or s i 0) ≡ none → run σ (drop i s) ≡ stopped (drop i s)
+  pub run_no : (σ : State) → i < length s → step σ (get_or s i 0) ≡ None → run σ (drop i s) ≡ Err (drop i s)
   run_no σ h e =
-      run_cons σ _ _ _ (drop_at s i h) ∙ ap (λ (m : Move). follow m (λ τ. run τ (drop (i + 1) s)) (drop i s)) e
+      run_cons σ _ _ _ (drop_at s i h) ∙ ap (λ (m : Option State). follow m (λ τ. run τ (drop (i + 1) s)) (drop i s)) e
 
-  pub run_end : (σ : State) → length s ≤ i → ended σ ≡ stopped [] → run σ (drop i s) ≡ stopped (drop i s)
+  pub run_end : (σ : State) → length s ≤ i → ended σ ≡ Err [] → run σ (drop i s) ≡ Err (drop i s)
   unfolding run
-  run_end σ h e = subst (λ (l : List ℕ). run σ l ≡ stopped l) (sym (drop_of_length-le s h)) e
+  run_end σ h e = subst (λ (l : List ℕ). run σ l ≡ Err l) (sym (drop_of_length-le s h)) e
 
   -- the `)` of a bracket
   shut_cons : (e : Pattern) (K : List Frame) → i < length s
-      → shut e K (drop i s) ≡ cond (eqb (get_or s i 0) 41) (run (have e K) (drop (i + 1) s)) (stopped (drop i s))
+      → shut e K (drop i s) ≡ cond (eqb (get_or s i 0) 41) (run (have e K) (drop (i + 1) s)) (Err (drop i s))
   unfolding shut
   shut_cons e K h = go _ _ _ (drop_at s i h)
     where
-      go : (l : List ℕ) (c : ℕ) (t : List ℕ) → l ≡ c ∷ t → shut e K l ≡ cond (eqb c 41) (run (have e K) t) (stopped l)
-      go l c t q = subst (λ (m : List ℕ). shut e K m ≡ cond (eqb c 41) (run (have e K) t) (stopped m)) (sym q) refl
+      go : (l : List ℕ) (c : ℕ) (t : List ℕ) → l ≡ c ∷ t → shut e K l ≡ cond (eqb c 41) (run (have e K) t) (Err l)
+      go l c t q = subst (λ (m : List ℕ). shut e K m ≡ cond (eqb c 41) (run (have e K) t) (Err m)) (sym q) refl
 
   pub shut_to : (e : Pattern) (K : List Frame) → i < length s → get_or s i 0 ≡ 41 → shut e K (drop i s) ≡ run (have e K) (drop (i + 1) s)
   shut_to e K h q = shut_cons e K h ∙ simp (eq-eqb _ _ q)
 
-  pub shut_no : (e : Pattern) (K : List Frame) → i < length s → (get_or s i 0 ≡ 41 → ⊥) → shut e K (drop i s) ≡ stopped (drop i s)
+  pub shut_no : (e : Pattern) (K : List Frame) → i < length s → (get_or s i 0 ≡ 41 → ⊥) → shut e K (drop i s) ≡ Err (drop i s)
   shut_no e K h q = shut_cons e K h ∙ simp (ne_eqb _ _ q)
 
-  pub shut_end : (e : Pattern) (K : List Frame) → length s ≤ i → shut e K (drop i s) ≡ stopped (drop i s)
+  pub shut_end : (e : Pattern) (K : List Frame) → length s ≤ i → shut e K (drop i s) ≡ Err (drop i s)
   unfolding shut
-  shut_end e K h = subst (λ (l : List ℕ). shut e K l ≡ stopped l) (sym (drop_of_length-le s h)) refl
+  shut_end e K h = subst (λ (l : List ℕ). shut e K l ≡ Err l) (sym (drop_of_length-le s h)) refl
 
   -- after the second operand, what follows is `)`
   pub second_shut : (op : Op) (x y : Pattern) (K : List Frame) → run (have y (second op x ∷ K)) (drop i s) ≡ shut (pair op x y) K (drop i s)
@@ -56,15 +54,15 @@ module _ (s : List ℕ) (i : ℕ) where
       (λ h. run_end (have y (second op x ∷ K)) h refl ∙ sym (shut_end (pair op x y) K h))
 
   -- and so it is after a number that does not go on
-  pub number_shut : (x : Pattern) (v : ℕ) (K : List Frame) → i < length s → grows v (get_or s i 0) ≡ false
+  pub number_shut : (x : Pattern) (v : ℕ) (K : List Frame) → i < length s → grown v (get_or s i 0) ≡ None
       → run (number x v K) (drop i s) ≡ shut (within x v) K (drop i s)
   number_shut x v K h q =
       run_cons (number x v K) _ _ _ (drop_at s i h)
       ∙ simp q (go (eqb (get_or s i 0) 41))
       ∙ sym (shut_cons (within x v) K h)
     where
-      go : (b : Bool) → follow (cond b (to (have (within x v) K)) none) (λ τ. run τ (drop (i + 1) s)) (drop i s)
-          ≡ cond b (run (have (within x v) K) (drop (i + 1) s)) (stopped (drop i s))
+      go : (b : Bool) → follow (cond b (Some (have (within x v) K)) None) (λ τ. run τ (drop (i + 1) s)) (drop i s)
+          ≡ cond b (run (have (within x v) K) (drop (i + 1) s)) (Err (drop i s))
       go true = refl
       go false = refl
 

@@ -1,8 +1,9 @@
 -- Each claim of specs/Claim, proved: what is accepted is exactly what the printer writes, the place of a refused text, and reading and printing back. Each
 -- shows an answer that meets the promise, and that there is no second one. Assumes nothing.
-use Rattle.std.proofs.Common.{◌≡◌, ℕ, ◌≤◌, List, ◌++◌, length, take, drop, sym, refl, ap, ◌∙◌, subst, arith, take_at}
+use Rattle.std.proofs.Common.{◌≡◌, ℕ, ◌≤◌, List, ◌++◌, length, take, drop, Result, Ok, Err, sym, refl, ap, ◌∙◌, subst, arith, take_at}
 use Rattle.rules.specs.Limits.{argument_bytes, most_text}
 use Rattle.rules.specs.Pattern.{Pattern}
+use Rattle.refusal.specs.declared.Refusal.{Refusal}
 use Rattle.refusal.specs.declared.Refusal.TheVariants.{Syntax}
 use Rattle.body.specs.Postfix.{encode}
 use Rattle.body.specs.Claim.{BodyOf}
@@ -11,9 +12,6 @@ use Rattle.text.specs.Grammar.{TextOf}
 use Rattle.text.specs.Answer.{IsSyntax, RefusedText, ReadingOf, PrintingOf}
 use Rattle.text.specs.Answer.RefusedText.{long, syntax, many, room}
 use Rattle.text.specs.Claim.{Readable, OneReading, OnePrinting, AcceptedExactly, SyntaxExactly, LongestPrefix, OnePattern, ReadPrinted, PrintedRead, AtMostPrinted}
-use Rattle.text.specs.declared.Reading.{Reading}
-use Rattle.text.specs.declared.Reading.TheVariants.{Read, Refused}
-use Rattle.text.specs.declared.Printing.TheVariants.{Printed}
 use Rattle.text.proofs.Sound.{one_pattern as one_tree}
 use Rattle.text.proofs.Lengths.{printed_at_most}
 use Rattle.text.proofs.Decided as Decided
@@ -32,7 +30,7 @@ at_most_printed b e h = printed_at_most e h.bodied.proper h.bodied.few
 
 -- the answers that the text of a pattern and the body of a pattern have
 readable_read : (s d : List ℕ) (e : Pattern) → Readable s d e
-    → ReadingOf s d (encode argument_bytes e ++ drop (length (encode argument_bytes e)) d) (Read (length (encode argument_bytes e)))
+    → ReadingOf s d (encode argument_bytes e ++ drop (length (encode argument_bytes e)) d) (Ok (length (encode argument_bytes e)))
 readable_read s d e h = record {
   some = record { short = h.short; tree = e; text = h.text };
   few = h.few;
@@ -42,7 +40,7 @@ readable_read s d e h = record {
 }
 
 body_printed : (b d : List ℕ) (e : Pattern) → BodyOf argument_bytes b e → length (render e) ≤ length d
-    → PrintingOf b d (render e ++ drop (length (render e)) d) (Printed (length (render e)))
+    → PrintingOf b d (render e ++ drop (length (render e)) d) (Ok (length (render e)))
 body_printed b d e h k = record { some = record { tree = e; body = h }; counts = refl; fits = k; written = refl }
 
 pub accepted_exactly : AcceptedExactly
@@ -51,7 +49,7 @@ accepted_exactly s d d' r a = (
   λ p. (length (encode argument_bytes p.0), (one_reading s d d' _ r _ a (readable_read s d p.0 p.1)).0),
 )
   where
-    read : {bytes : ℕ} → ReadingOf s d d' (Read bytes) → (e : Pattern) × Readable s d e
+    read : {bytes : ℕ} → ReadingOf s d d' (Ok bytes) → (e : Pattern) × Readable s d e
     read i = (i.some.tree, record { text = i.some.text; short = i.some.short; few = i.few; room = omega (arith, i.counts, i.fits) })
 
 is_syntax : {s d : List ℕ} {place : ℕ} → RefusedText s d (Syntax place) → IsSyntax s place
@@ -66,15 +64,15 @@ syntax_exactly s d d' r a = (
   λ p. only r a p.0 p.1,
 )
   where
-    only : (r : Reading) → ReadingOf s d d' r → length s ≤ most_text → ((e : Pattern) → TextOf s e → ⊥) → (place : ℕ) × (r ≡ Refused (Syntax place))
-    only (Read bytes) i short none = absurd (none i.some.tree i.some.text)
-    only (Refused q) (long i, k) short none = absurd (omega (arith, i.long))
-    only (Refused q) (syntax {place} i, k) short none = (place, refl)
-    only (Refused q) (many i, k) short none = absurd (none i.some.tree i.some.text)
-    only (Refused q) (room i, k) short none = absurd (none i.some.tree i.some.text)
+    only : (r : Result ℕ Refusal) → ReadingOf s d d' r → length s ≤ most_text → ((e : Pattern) → TextOf s e → ⊥) → (place : ℕ) × (r ≡ Err (Syntax place))
+    only (Ok bytes) i short none = absurd (none i.some.tree i.some.text)
+    only (Err q) (long i, k) short none = absurd (omega (arith, i.long))
+    only (Err q) (syntax {place} i, k) short none = (place, refl)
+    only (Err q) (many i, k) short none = absurd (none i.some.tree i.some.text)
+    only (Err q) (room i, k) short none = absurd (none i.some.tree i.some.text)
 
 pub read_printed : ReadPrinted
-read_printed b d d' bytes a g g' r fits t = (u.0 ∙ ap Read (sym same), u.1 ∙ rest)
+read_printed b d d' bytes a g g' r fits t = (u.0 ∙ ap Ok (sym same), u.1 ∙ rest)
   where
     e : Pattern
     e = a.some.tree
@@ -88,7 +86,7 @@ read_printed b d d' bytes a g g' r fits t = (u.0 ∙ ap Read (sym same), u.1 ∙
     text : take bytes d' ≡ render e
     text = ap (take bytes) a.written ∙ take_at (render e) (drop bytes d) bytes (sym a.counts)
 
-    u : (r ≡ Read (length (encode argument_bytes e))) × (g' ≡ encode argument_bytes e ++ drop (length (encode argument_bytes e)) g)
+    u : (r ≡ Ok (length (encode argument_bytes e))) × (g' ≡ encode argument_bytes e ++ drop (length (encode argument_bytes e)) g)
     u = one_reading (take bytes d') g g' _ r _ t (readable_read (take bytes d') g e (record {
       text = record { proper = h.bodied.proper; same = text };
       short = omega (arith, ap length text, at_most_printed b e h);
@@ -100,7 +98,7 @@ read_printed b d d' bytes a g g' r fits t = (u.0 ∙ ap Read (sym same), u.1 ∙
     rest = ap (λ (w : List ℕ). w ++ drop (length w) g) (sym h.same)
 
 pub printed_read : PrintedRead
-printed_read s d d' bytes a g g' r fits t = (u.0 ∙ ap Printed (sym same), u.1 ∙ rest)
+printed_read s d d' bytes a g g' r fits t = (u.0 ∙ ap Ok (sym same), u.1 ∙ rest)
   where
     e : Pattern
     e = a.some.tree
@@ -111,7 +109,7 @@ printed_read s d d' bytes a g g' r fits t = (u.0 ∙ ap Printed (sym same), u.1 
     body : take bytes d' ≡ encode argument_bytes e
     body = ap (take bytes) a.written ∙ take_at (encode argument_bytes e) (drop bytes d) bytes (sym a.counts)
 
-    u : (r ≡ Printed (length (render e))) × (g' ≡ render e ++ drop (length (render e)) g)
+    u : (r ≡ Ok (length (render e))) × (g' ≡ render e ++ drop (length (render e)) g)
     u = one_printing (take bytes d') g g' _ r _ t (body_printed (take bytes d') g e (record {
       bodied = record { proper = a.some.text.proper; few = a.few };
       same = body;

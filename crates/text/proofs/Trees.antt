@@ -11,9 +11,9 @@ use Rattle.body.specs.Postfix.{postfix}
 use Rattle.body.proofs.Trees.{size_pos, length_postfix}
 use Rattle.body.proofs.Bodies.{length_by}
 use Rattle.decimal.specs.Decimal.{decimal}
-use Rattle.decimal.specs.Backward.{Backward}
-use Rattle.decimal.proofs.Backwards.{before_back}
-use Rattle.text.specs.Render.{numbers, letter_byte, op_byte, render}
+use Rattle.decimal.specs.Before.{Before}
+use Rattle.decimal.proofs.Written.{before_it}
+use Rattle.text.specs.Render.{numbers, most_printed, letter_byte, op_byte, render}
 use Rattle.text.specs.inner.Helpers.{Ends, TreeReady, IsTree, TreeWritten}
 
 -- entries by index, where they are a list: its first part, its last entry, and their number
@@ -109,12 +109,15 @@ some_entry b k r =
     omega (arith, length-append r.others (postfix r.tree), length_postfix r.tree, size_pos r.tree)
 
 -- a bracket, written backwards: `)`, what follows the sign, the sign, the left operand, `(`
-bracket_back : (d d₁ d₂ d₃ d₄ d₅ : List ℕ) (end shut mid middle byte start c : ℕ) (vs ws : List ℕ)
-    → Backward d d₁ end shut (41 ∷ []) → Backward d₁ d₂ shut mid ws → Backward d₂ d₃ mid middle (c ∷ [])
-    → Backward d₃ d₄ middle byte vs → Backward d₄ d₅ byte start (40 ∷ [])
-    → Backward d d₅ end start (40 ∷ (vs ++ (c ∷ (ws ++ (41 ∷ [])))))
-bracket_back d d₁ d₂ d₃ d₄ d₅ end shut mid middle byte start c vs ws t w u v o =
-    before_back (before_back (before_back (before_back t w) u) v) o
+bracket : (d d₁ d₂ d₃ d₄ d₅ : List ℕ) (c : ℕ) (vs ws : List ℕ)
+    → Before most_printed d d₁ (41 ∷ []) → Before most_printed d₁ d₂ ws → Before most_printed d₂ d₃ (c ∷ [])
+    → Before most_printed d₃ d₄ vs → Before most_printed d₄ d₅ (40 ∷ [])
+    → Before most_printed d d₅ (40 ∷ (vs ++ (c ∷ (ws ++ (41 ∷ [])))))
+bracket d d₁ d₂ d₃ d₄ d₅ c vs ws t w u v o =
+    let operand = before_it most_printed d d₁ d₂ ws (41 ∷ []) t w in
+    let sign = before_it most_printed d d₂ d₃ (c ∷ []) (ws ++ (41 ∷ [])) operand u in
+    let both = before_it most_printed d d₃ d₄ vs (c ∷ (ws ++ (41 ∷ []))) sign v in
+    before_it most_printed d d₄ d₅ (40 ∷ []) (vs ++ (c ∷ (ws ++ (41 ∷ [])))) both o
 
 module _ (b : List ℕ) (k : ℕ) where
   -- a letter
@@ -122,10 +125,10 @@ module _ (b : List ℕ) (k : ℕ) where
     pub letter_ready : TreeReady b k → n < letters
     letter_ready r = let p = ends_in b k r.others r.tree s r.ends in subst (Proper numbers) p.tree r.proper
 
-    pub letter_written : (d d' : List ℕ) (end byte : ℕ) → Backward d d' end byte (letter_byte n ∷ []) → TreeWritten b k d d' end (k - 1) byte
-    letter_written d d' end byte t others e q =
+    pub letter_written : (d d' : List ℕ) → Before most_printed d d' (letter_byte n ∷ []) → TreeWritten b k d d' (k - 1)
+    letter_written d d' t others e q =
         let p = ends_in b k others e s q in
-        record { first_entry = omega (arith, p.count); text = subst (λ (e : Pattern). Backward d d' end byte (render e)) (sym p.tree) t }
+        record { first_entry = omega (arith, p.count); text = rw p.tree t }
 
   -- an operator
   module _ (op : Op) (s : Pair op ≡ entry_at argument_bytes b (k - 1)) where
@@ -144,8 +147,8 @@ module _ (b : List ℕ) (k : ℕ) where
         proper = both_proper.1;
       }
 
-      module _ (d d' : List ℕ) (shut entry byte : ℕ) (w : TreeWritten b (k - 1) d d' shut entry byte) where
-        right_tree : IsTree d d' shut parts.right (r.others ++ postfix parts.left) entry byte
+      module _ (d d' : List ℕ) (entry : ℕ) (w : TreeWritten b (k - 1) d d' entry) where
+        right_tree : IsTree d d' parts.right (r.others ++ postfix parts.left) entry
         right_tree = w (r.others ++ postfix parts.left) parts.right parts.ends
 
         pub left_falls : entry < k
@@ -159,19 +162,17 @@ module _ (b : List ℕ) (k : ℕ) where
           proper = both_proper.0;
         }
 
-    pub pair_written : (d d₁ d₂ d₃ d₄ d₅ : List ℕ) (end shut entry byte middle entry₁ byte₁ start : ℕ)
-        → Backward d d₁ end shut (41 ∷ []) → TreeWritten b (k - 1) d₁ d₂ shut entry byte
-        → Backward d₂ d₃ byte middle (op_byte op ∷ []) → TreeWritten b entry d₃ d₄ middle entry₁ byte₁
-        → Backward d₄ d₅ byte₁ start (40 ∷ []) → TreeWritten b k d d₅ end entry₁ start
-    pair_written d d₁ d₂ d₃ d₄ d₅ end shut entry byte middle entry₁ byte₁ start t w u v o others e q =
+    pub pair_written : (d d₁ d₂ d₃ d₄ d₅ : List ℕ) (entry entry₁ : ℕ)
+        → Before most_printed d d₁ (41 ∷ []) → TreeWritten b (k - 1) d₁ d₂ entry
+        → Before most_printed d₂ d₃ (op_byte op ∷ []) → TreeWritten b entry d₃ d₄ entry₁
+        → Before most_printed d₄ d₅ (40 ∷ []) → TreeWritten b k d d₅ entry₁
+    pair_written d d₁ d₂ d₃ d₄ d₅ entry entry₁ t w u v o others e q =
         let p = ends_in b k others e s q in
         let y = w (others ++ postfix p.left) p.right p.ends in
         let x = v others p.left (rw y.first_entry p.starts) in
         record {
           first_entry = x.first_entry;
-          text = subst (λ (e : Pattern). Backward d d₅ end start (render e)) (sym p.tree)
-              (bracket_back d d₁ d₂ d₃ d₄ d₅ end shut byte middle byte₁ start (op_byte op) (render p.left) (render p.right)
-              t y.text u x.text o);
+          text = rw p.tree (bracket d d₁ d₂ d₃ d₄ d₅ (op_byte op) (render p.left) (render p.right) t y.text u x.text o);
         }
 
   -- a restriction
@@ -186,15 +187,14 @@ module _ (b : List ℕ) (k : ℕ) where
       pub limited_ready : TreeReady b (k - 1)
       limited_ready = record { tree = part.left; others = r.others; ends = part.ends; proper = part_proper.0 }
 
-    pub within_written : (d d₁ d₂ d₃ d₄ d₅ : List ℕ) (end shut number middle entry byte start : ℕ)
-        → Backward d d₁ end shut (41 ∷ []) → Backward d₁ d₂ shut number (decimal n)
-        → Backward d₂ d₃ number middle (64 ∷ []) → TreeWritten b (k - 1) d₃ d₄ middle entry byte
-        → Backward d₄ d₅ byte start (40 ∷ []) → TreeWritten b k d d₅ end entry start
-    within_written d d₁ d₂ d₃ d₄ d₅ end shut number middle entry byte start t w u v o others e q =
+    pub within_written : (d d₁ d₂ d₃ d₄ d₅ : List ℕ) (entry : ℕ)
+        → Before most_printed d d₁ (41 ∷ []) → Before most_printed d₁ d₂ (decimal n)
+        → Before most_printed d₂ d₃ (64 ∷ []) → TreeWritten b (k - 1) d₃ d₄ entry
+        → Before most_printed d₄ d₅ (40 ∷ []) → TreeWritten b k d d₅ entry
+    within_written d d₁ d₂ d₃ d₄ d₅ entry t w u v o others e q =
         let p = ends_in b k others e s q in
         let x = v others p.left p.ends in
         record {
           first_entry = x.first_entry;
-          text = subst (λ (e : Pattern). Backward d d₅ end start (render e)) (sym p.tree)
-              (bracket_back d d₁ d₂ d₃ d₄ d₅ end shut number middle byte start 64 (render p.left) (decimal n) t w u x.text o);
+          text = rw p.tree (bracket d d₁ d₂ d₃ d₄ d₅ 64 (render p.left) (decimal n) t w u x.text o);
         }

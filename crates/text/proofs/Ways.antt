@@ -1,59 +1,37 @@
 -- The ways that `expression` and `tail` go: one lemma for each way out of the code. Assumes nothing.
-use Rattle.std.proofs.Common.{◌≡◌, ℕ, ◌+◌, ◌<◌, ◌≤◌, List, ◌∷◌, length, get_or, drop, sym, refl, ap, ◌∙◌, arith, le-ltb, lt-ltb, eq-eqb, ne_eqb}
+use Rattle.std.proofs.Common.{◌≡◌, ℕ, ◌+◌, ◌<◌, List, ◌∷◌, length, get_or, drop, Some, None, sym, refl, ap, ◌∙◌, arith, eq-eqb, ne_eqb}
 use Rattle.rules.specs.declared.Op.{Op}
-use Rattle.rules.specs.declared.Op.TheVariants.{Either, Both, Without, Chain}
-use Rattle.rules.specs.Limits.{letters, argument_bytes}
+use Rattle.rules.specs.Limits.{argument_bytes}
 use Rattle.rules.specs.Pattern.{Pattern, event, size}
 use Rattle.body.specs.declared.Entry.TheVariants.{Pair}
 use Rattle.body.specs.Bytes.{bytes_of}
-use Rattle.body.specs.Entry.{entry_bytes}
+use Rattle.body.specs.Entry.{op_number, entry_bytes}
 use Rattle.text.specs.Characters.{letter_of}
-use Rattle.text.specs.inner.Machine.{Frame, Sign, sign_of, sign_number, run, shut, after_sign}
+use Rattle.text.specs.inner.Machine.{Frame, sign_of, run, shut, after_sign}
 use Rattle.text.specs.inner.Machine.Frame.{first, second}
 use Rattle.text.specs.inner.Machine.State.{want, have, limit}
-use Rattle.text.specs.inner.Machine.Sign.{oper, cap, other}
-use Rattle.text.specs.inner.Helpers.{Written, by, up_to, join, rest_encode, IsValue, IsBad, IsExpression, NoExpression, IsTail, NoTail}
+use Rattle.text.specs.declared.reader.Sign.TheVariants.{Operator, Limit}
+use Rattle.text.specs.inner.Written.{Written}
+use Rattle.text.specs.inner.Helpers.{by, up_to, join, rest_encode, IsValue, IsBad, IsExpression, NoExpression, IsTail, NoTail}
 use Rattle.text.proofs.Steps.{run_to, run_no, run_end, shut_to, shut_no, shut_end, second_shut}
 use Rattle.text.proofs.Entries.{encode_event, written_after, encode_join, size_join}
-
--- what a sign's number says of it
-sign_other : (g : Sign) → sign_number g ≡ 0 → g ≡ other
-sign_other (oper Either) e = absurd (omega arith)
-sign_other (oper Both) e = absurd (omega arith)
-sign_other (oper Without) e = absurd (omega arith)
-sign_other (oper Chain) e = absurd (omega arith)
-sign_other cap e = absurd (omega arith)
-sign_other other e = refl
-
-sign_cap : (g : Sign) → sign_number g ≡ 5 → g ≡ cap
-sign_cap (oper Either) e = absurd (omega arith)
-sign_cap (oper Both) e = absurd (omega arith)
-sign_cap (oper Without) e = absurd (omega arith)
-sign_cap (oper Chain) e = absurd (omega arith)
-sign_cap cap e = refl
-sign_cap other e = absurd (omega arith)
-
-sign_oper : (g : Sign) → (sign_number g ≡ 0 → ⊥) → (sign_number g ≡ 5 → ⊥) → (op : Op) × (g ≡ oper op)
-sign_oper (oper op) e f = (op, refl)
-sign_oper cap e f = absurd (f refl)
-sign_oper other e f = absurd (e refl)
 
 -- `(` stands at `at`
 pub record Opened (s : List ℕ) (at : ℕ) : Type 0 where
   pub inside : at < length s
-  pub no_letter : letters ≤ letter_of (get_or s at 0)
+  pub no_letter : None ≡ letter_of (get_or s at 0)
   pub bracket : get_or s at 0 ≡ 40
 
 module _ (s : List ℕ) (at : ℕ) where
   pub no_text : length s ≡ at → NoExpression s at at
   no_text h = record { inside = omega arith; reads = λ K. run_end s at (want K) (omega arith) refl }
 
-  pub is_letter : (n : ℕ) (d d' : List ℕ) (k : ℕ) → at < length s → k ≡ letter_of (get_or s at 0) → k < letters
+  pub is_letter : (n : ℕ) (d d' : List ℕ) (k : ℕ) → at < length s → Some k ≡ letter_of (get_or s at 0)
       → Written d d' n (0 ∷ bytes_of argument_bytes k) → IsExpression s at n d d' (at + 1) (n + 1)
   unfolding size entry_bytes
-  is_letter n d d' k h q small w = record {
+  is_letter n d d' k h q w = record {
     tree = event k;
-    reads = λ K. run_to s at (want K) (have (event k) K) h (simp (← q, lt-ltb _ _ small));
+    reads = λ K. run_to s at (want K) (have (event k) K) h (simp (← q));
     ahead = omega arith;
     inside = omega arith;
     count = refl;
@@ -61,12 +39,12 @@ module _ (s : List ℕ) (at : ℕ) where
     written = rw (encode_event argument_bytes k) w;
   }
 
-  pub no_open : at < length s → letters ≤ letter_of (get_or s at 0) → (get_or s at 0 ≡ 40 → ⊥) → NoExpression s at at
-  no_open h q f = record { inside = omega arith; reads = λ K. run_no s at (want K) h (simp (le-ltb _ _ q, ne_eqb _ _ f)) }
+  pub no_open : at < length s → None ≡ letter_of (get_or s at 0) → (get_or s at 0 ≡ 40 → ⊥) → NoExpression s at at
+  no_open h q f = record { inside = omega arith; reads = λ K. run_no s at (want K) h (simp (← q, ne_eqb _ _ f)) }
 
   module _ (o : Opened s at) where
     opened : (K : List Frame) → run (want K) (drop at s) ≡ run (want (first ∷ K)) (drop (at + 1) s)
-    opened K = run_to s at (want K) _ o.inside (simp (le-ltb _ _ o.no_letter, eq-eqb _ _ o.bracket))
+    opened K = run_to s at (want K) _ o.inside (simp (← o.no_letter, eq-eqb _ _ o.bracket))
 
     pub no_left : {p : ℕ} → NoExpression s (at + 1) p → NoExpression s at p
     no_left l = record { inside = l.inside; reads = λ K. opened K ∙ l.reads (first ∷ K) }
@@ -100,16 +78,16 @@ module _ (s : List ℕ) (at : ℕ) where
   pub no_tail_text : length s ≡ at → NoTail s at at
   no_tail_text h = record { inside = omega arith; reads = λ x K. run_end s at (have x (first ∷ K)) (omega arith) refl }
 
-  pub no_sign : at < length s → 0 ≡ sign_number (sign_of (get_or s at 0)) → NoTail s at at
+  pub no_sign : at < length s → None ≡ sign_of (get_or s at 0) → NoTail s at at
   no_sign h q = record {
     inside = omega arith;
-    reads = λ x K. run_no s at (have x (first ∷ K)) h (ap (after_sign x K) (sign_other (sign_of (get_or s at 0)) (sym q)));
+    reads = λ x K. run_no s at (have x (first ∷ K)) h (ap (after_sign x K) (sym q));
   }
 
   module _ (h : at < length s) where
-    module _ (q : 5 ≡ sign_number (sign_of (get_or s at 0))) where
+    module _ (q : Some Limit ≡ sign_of (get_or s at 0)) where
       capped : (x : Pattern) (K : List Frame) → run (have x (first ∷ K)) (drop at s) ≡ run (limit x K) (drop (at + 1) s)
-      capped x K = run_to s at (have x (first ∷ K)) _ h (ap (after_sign x K) (sign_cap (sign_of (get_or s at 0)) (sym q)))
+      capped x K = run_to s at (have x (first ∷ K)) _ h (ap (after_sign x K) (sym q))
 
       pub no_number : {p : ℕ} → IsBad s (at + 1) p → NoTail s at p
       no_number b = record { inside = b.inside; reads = λ x K. capped x K ∙ b.reads x K }
@@ -127,27 +105,23 @@ module _ (s : List ℕ) (at : ℕ) where
         written = w;
       }
 
-    module _ (op : ℕ) (q : op ≡ sign_number (sign_of (get_or s at 0))) (f : op ≡ 0 → ⊥) (g : op ≡ 5 → ⊥) where
-      the_op : (o : Op) × (sign_of (get_or s at 0) ≡ oper o)
-      the_op = sign_oper _ (λ e. f (q ∙ e)) (λ e. g (q ∙ e))
-
+    module _ (op : Op) (q : Some (Operator op) ≡ sign_of (get_or s at 0)) where
       operated : (x : Pattern) (K : List Frame)
-          → run (have x (first ∷ K)) (drop at s) ≡ run (want (second the_op.0 x ∷ K)) (drop (at + 1) s)
-      operated x K = run_to s at (have x (first ∷ K)) _ h (ap (after_sign x K) the_op.1)
+          → run (have x (first ∷ K)) (drop at s) ≡ run (want (second op x ∷ K)) (drop (at + 1) s)
+      operated x K = run_to s at (have x (first ∷ K)) _ h (ap (after_sign x K) (sym q))
 
       pub no_operand : {p : ℕ} → NoExpression s (at + 1) p → NoTail s at p
-      no_operand b = record { inside = b.inside; reads = λ x K. operated x K ∙ b.reads (second the_op.0 x ∷ K) }
+      no_operand b = record { inside = b.inside; reads = λ x K. operated x K ∙ b.reads (second op x ∷ K) }
 
       pub is_operand : {n : ℕ} {d d₁ : List ℕ} (d₂ : List ℕ) {end m : ℕ} → IsExpression s (at + 1) n d d₁ end m
-          → Written d₁ d₂ m (op ∷ bytes_of argument_bytes 0) → IsTail s at n d d₂ end (m + 1)
+          → Written d₁ d₂ m (op_number op ∷ bytes_of argument_bytes 0) → IsTail s at n d d₂ end (m + 1)
       unfolding entry_bytes
       is_operand {n} {d} {d₁} d₂ {end} {m} b w = record {
-        rest = by the_op.0 b.tree;
-        reads = λ x K. operated x K ∙ b.reads (second the_op.0 x ∷ K) ∙ second_shut s end the_op.0 x b.tree K;
+        rest = by op b.tree;
+        reads = λ x K. operated x K ∙ b.reads (second op x ∷ K) ∙ second_shut s end op x b.tree K;
         ahead = omega (arith, b.ahead);
         inside = b.inside;
         count = omega (arith, b.count);
         few = omega (arith, b.few);
-        written = written_after d d₁ d₂ n m b.tree (entry_bytes argument_bytes (Pair the_op.0)) b.count b.written
-            (rw (q ∙ ap sign_number the_op.1) at w);
+        written = written_after d d₁ d₂ n m b.tree (entry_bytes argument_bytes (Pair op)) b.count b.written w;
       }

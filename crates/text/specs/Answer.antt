@@ -1,6 +1,6 @@
 -- What reading and printing answer, refusals in the order of docs/RULES.md, "Refusals"; and what the caller's slice holds afterwards.
 -- Assumes nothing: these are definitions.
-use Rattle.std.specs.Prelude.{◌≡◌, ℕ, ◌<◌, ◌≤◌, List, ◌++◌, length, drop}
+use Rattle.std.specs.Prelude.{◌≡◌, ℕ, ◌<◌, ◌≤◌, List, ◌++◌, length, drop, Result, Ok, Err}
 use Rattle.rules.specs.Limits.{argument_bytes, most_entries, most_text}
 use Rattle.rules.specs.Pattern.{Pattern, size}
 use Rattle.refusal.specs.declared.Refusal.{Refusal}
@@ -8,13 +8,8 @@ use Rattle.refusal.specs.declared.Refusal.TheVariants.{Long, Syntax, Many, Room}
 use Rattle.body.specs.Postfix.{encode}
 use Rattle.body.specs.Check.{check_of}
 use Rattle.body.specs.Claim.{BodyOf}
-use Rattle.body.specs.declared.BodyCheck.TheVariants.{Refused as Unsound}
 use Rattle.text.specs.Render.{render}
 use Rattle.text.specs.Grammar.{TextOf, Broken}
-use Rattle.text.specs.declared.Reading.{Reading}
-use Rattle.text.specs.declared.Reading.TheVariants.{Read, Refused as Unread}
-use Rattle.text.specs.declared.Printing.{Printing}
-use Rattle.text.specs.declared.Printing.TheVariants.{Printed, Refused as Unprinted}
 
 -- the text s is short enough and the text of a pattern, its tree
 pub record IsText (s : List ℕ) : Type 0 where
@@ -59,9 +54,9 @@ pub data RefusedText (s d : List ℕ) : Refusal → Type 0 where
   room : {need : ℕ} → IsRoom s d need → RefusedText s d (Room need)
 
 -- the answer to reading s into the slice d, which holds d' afterwards; a refusal changes nothing
-abbrev pub ReadingOf : List ℕ → List ℕ → List ℕ → Reading → Type 0
-ReadingOf s d d' (Read bytes) = IsRead s d d' bytes
-ReadingOf s d d' (Unread r) = RefusedText s d r × (d' ≡ d)
+abbrev pub ReadingOf : List ℕ → List ℕ → List ℕ → Result ℕ Refusal → Type 0
+ReadingOf s d d' (Ok bytes) = IsRead s d d' bytes
+ReadingOf s d d' (Err r) = RefusedText s d r × (d' ≡ d)
 
 -- the body b is that of a pattern, its tree
 pub record IsBody (b : List ℕ) : Type 0 where
@@ -70,7 +65,7 @@ pub record IsBody (b : List ℕ) : Type 0 where
 
 -- 6, 7: the check of a lone body refuses it
 pub record IsUnsound (b : List ℕ) (r : Refusal) : Type 0 where
-  pub unsound : check_of argument_bytes b ≡ Unsound r
+  pub unsound : check_of argument_bytes b ≡ Err r
 
 -- 8: the slice d for the text is too short; the place is the length needed
 pub record IsTextRoom (b d : List ℕ) (need : ℕ) : Type 0 where
@@ -91,6 +86,6 @@ pub data RefusedBody (b d : List ℕ) : Refusal → Type 0 where
   room : {need : ℕ} → IsTextRoom b d need → RefusedBody b d (Room need)
 
 -- the answer to printing b into the slice d, which holds d' afterwards; a refusal changes nothing
-abbrev pub PrintingOf : List ℕ → List ℕ → List ℕ → Printing → Type 0
-PrintingOf b d d' (Printed bytes) = IsPrinted b d d' bytes
-PrintingOf b d d' (Unprinted r) = RefusedBody b d r × (d' ≡ d)
+abbrev pub PrintingOf : List ℕ → List ℕ → List ℕ → Result ℕ Refusal → Type 0
+PrintingOf b d d' (Ok bytes) = IsPrinted b d d' bytes
+PrintingOf b d d' (Err r) = RefusedBody b d r × (d' ≡ d)

@@ -1,27 +1,24 @@
 -- What is claimed of reading and printing. Assumes nothing: these are definitions.
-use Rattle.std.specs.Prelude.{◌≡◌, ℕ, ◌≤◌, ◌↔◌, List, ◌++◌, length, take, drop}
+use Rattle.std.specs.Prelude.{◌≡◌, ℕ, ◌≤◌, ◌↔◌, List, ◌++◌, length, take, drop, Result, Ok, Err}
 use Rattle.rules.specs.Limits.{argument_bytes, most_entries, most_text}
 use Rattle.rules.specs.Pattern.{Pattern, size}
+use Rattle.refusal.specs.declared.Refusal.{Refusal}
 use Rattle.refusal.specs.declared.Refusal.TheVariants.{Syntax}
 use Rattle.body.specs.Postfix.{encode}
 use Rattle.body.specs.Claim.{BodyOf}
 use Rattle.text.specs.Render.{most_printed, render}
 use Rattle.text.specs.Grammar.{TextOf, Broken}
 use Rattle.text.specs.Answer.{ReadingOf, PrintingOf}
-use Rattle.text.specs.declared.Reading.{Reading}
-use Rattle.text.specs.declared.Reading.TheVariants.{Read, Refused}
-use Rattle.text.specs.declared.Printing.{Printing}
-use Rattle.text.specs.declared.Printing.TheVariants.{Printed}
 
 -- only one answer and one slice meet what reading promises
 abbrev pub OneReading : Type 0
 OneReading =
-    (s d d₁ d₂ : List ℕ) (r₁ r₂ : Reading) → ReadingOf s d d₁ r₁ → ReadingOf s d d₂ r₂ → (r₁ ≡ r₂) × (d₁ ≡ d₂)
+    (s d d₁ d₂ : List ℕ) (r₁ r₂ : Result ℕ Refusal) → ReadingOf s d d₁ r₁ → ReadingOf s d d₂ r₂ → (r₁ ≡ r₂) × (d₁ ≡ d₂)
 
 -- and only one what printing promises
 abbrev pub OnePrinting : Type 0
 OnePrinting =
-    (b d d₁ d₂ : List ℕ) (r₁ r₂ : Printing) → PrintingOf b d d₁ r₁ → PrintingOf b d d₂ r₂ → (r₁ ≡ r₂) × (d₁ ≡ d₂)
+    (b d d₁ d₂ : List ℕ) (r₁ r₂ : Result ℕ Refusal) → PrintingOf b d d₁ r₁ → PrintingOf b d d₂ r₂ → (r₁ ≡ r₂) × (d₁ ≡ d₂)
 
 -- s is the text of the pattern e, within the limits on texts and bodies, and d has room for the body
 pub record Readable (s d : List ℕ) (e : Pattern) : Type 0 where
@@ -33,20 +30,20 @@ pub record Readable (s d : List ℕ) (e : Pattern) : Type 0 where
 -- a text is accepted exactly if it is the text of a pattern, within the limits
 abbrev pub AcceptedExactly : Type 0
 AcceptedExactly =
-    (s d d' : List ℕ) (r : Reading)
+    (s d d' : List ℕ) (r : Result ℕ Refusal)
     → ReadingOf s d d' r
-    → ((bytes : ℕ) × (r ≡ Read bytes)) ↔ ((e : Pattern) × Readable s d e)
+    → ((bytes : ℕ) × (r ≡ Ok bytes)) ↔ ((e : Pattern) × Readable s d e)
 
 -- a text within the limit on texts is refused for its syntax exactly if it is the text of no pattern
 abbrev pub SyntaxExactly : Type 0
 SyntaxExactly =
-    (s d d' : List ℕ) (r : Reading)
+    (s d d' : List ℕ) (r : Result ℕ Refusal)
     → ReadingOf s d d' r
-    → ((place : ℕ) × (r ≡ Refused (Syntax place))) ↔ ((length s ≤ most_text) × ((e : Pattern) → TextOf s e → ⊥))
+    → ((place : ℕ) × (r ≡ Err (Syntax place))) ↔ ((length s ≤ most_text) × ((e : Pattern) → TextOf s e → ⊥))
 
 -- the place is the number of bytes in the longest prefix that begins some expression of any length
 abbrev pub LongestPrefix : Type 0
-LongestPrefix = (s d d' : List ℕ) (place : ℕ) → ReadingOf s d d' (Refused (Syntax place)) → Broken s place
+LongestPrefix = (s d d' : List ℕ) (place : ℕ) → ReadingOf s d d' (Err (Syntax place)) → Broken s place
 
 -- a pattern is known by its text
 abbrev pub OnePattern : Type 0
@@ -56,21 +53,21 @@ OnePattern = (s : List ℕ) (e e' : Pattern) → TextOf s e → TextOf s e' → 
 abbrev pub ReadPrinted : Type 0
 ReadPrinted =
     (b d d' : List ℕ) (bytes : ℕ)
-    → PrintingOf b d d' (Printed bytes)
-    → (g g' : List ℕ) (r : Reading)
+    → PrintingOf b d d' (Ok bytes)
+    → (g g' : List ℕ) (r : Result ℕ Refusal)
     → length b ≤ length g
     → ReadingOf (take bytes d') g g' r
-    → (r ≡ Read (length b)) × (g' ≡ b ++ drop (length b) g)
+    → (r ≡ Ok (length b)) × (g' ≡ b ++ drop (length b) g)
 
 -- what was read is printed back to the text
 abbrev pub PrintedRead : Type 0
 PrintedRead =
     (s d d' : List ℕ) (bytes : ℕ)
-    → ReadingOf s d d' (Read bytes)
-    → (g g' : List ℕ) (r : Printing)
+    → ReadingOf s d d' (Ok bytes)
+    → (g g' : List ℕ) (r : Result ℕ Refusal)
     → length s ≤ length g
     → PrintingOf (take bytes d') g g' r
-    → (r ≡ Printed (length s)) × (g' ≡ s ++ drop (length s) g)
+    → (r ≡ Ok (length s)) × (g' ≡ s ++ drop (length s) g)
 
 -- the text of a valid body never has more than 807 bytes
 abbrev pub AtMostPrinted : Type 0

@@ -1,108 +1,72 @@
 // Pattern text: reading it into a body, and printing a body as text.
 #![tactic(auto)]
 
+mod made;
 mod printer;
 mod reader;
 
-ghost use Rattle.std.specs.Prelude.{◌≡◌};
+ghost use Rattle.std.specs.Prelude.{◌≡◌, ◌<◌, IfSome};
+ghost use Rattle.rules.specs.Limits.{letters};
 ghost use Rattle.text.specs.Characters.{letter_of, digit_of};
 ghost use Rattle.text.specs.Answer.{ReadingOf, PrintingOf};
 
-use body::BodyCheck;
+use decimal::Backwards;
+use made::Made;
 use printer::MOST_PRINTED;
-use reader::{LETTERS, Reach, SMALL};
 use refusal::Refusal;
-use rules::{ENTRY_BYTES, MOST_BODY, MOST_ENTRIES, MOST_TEXT};
+use rules::{ENTRY_BYTES, MOST_ENTRIES, MOST_TEXT};
 
-// What reading a text answers: the bytes of body written, or why the text is refused.
-#[derive(Clone, Copy)]
-pub enum Reading {
-    Read(usize),
-    Refused(Refusal),
-}
+// The event types that are written as capital letters.
+const CAPITALS: u8 = 26;
 
-// What printing a body answers: the bytes of text written, or why the body is refused.
-#[derive(Clone, Copy)]
-pub enum Printing {
-    Printed(usize),
-    Refused(Refusal),
-}
-
-// Reads the text of a pattern and writes its body; a refused text leaves `body` as it was.
-pub fn read_pattern(text: &[u8], body: &mut [u8]) -> Reading
+// Reads the text of a pattern and writes its body; answers the bytes of body written. A refused text leaves `body` as it was.
+pub fn read_pattern(text: &[u8], body: &mut [u8]) -> Result<usize, Refusal>
     ensures { ReadingOf text.now body.old body.new result }
 {
     if text.len() > MOST_TEXT {
-        return Reading::Refused(Refusal::Long);
+        return Err(Refusal::Long);
     }
-    let mut made = [0u8; MOST_BODY];
-    let whole = reader::expression(text, 0, &mut made, 0);
-    match whole {
-        Reach::Stuck(place) => Reading::Refused(Refusal::Syntax(place)),
-        Reach::To(end, entries) => {
-            if end < text.len() {
-                return Reading::Refused(Refusal::Syntax(end));
-            }
-            if entries > MOST_ENTRIES {
-                return Reading::Refused(Refusal::Many);
-            }
-            let need = entries * ENTRY_BYTES;
-            if body.len() < need {
-                return Reading::Refused(Refusal::Room(need));
-            }
-            copying::copy(&made[0..need], body);
-            Reading::Read(need)
-        }
+    let mut made = Made::new();
+    let end = reader::expression(text, 0, &mut made).map_err(Refusal::Syntax)?;
+    if end < text.len() {
+        return Err(Refusal::Syntax(end));
     }
+    if made.entries > MOST_ENTRIES {
+        return Err(Refusal::Many);
+    }
+    copying::copy_if_room(&made.bytes[..made.entries * ENTRY_BYTES], body).map_err(Refusal::Room)
 }
 
-// Prints a body as the text of its pattern; a refused body leaves `text` as it was.
-pub fn print_pattern(body: &[u8], text: &mut [u8]) -> Printing
+// Prints a body as the text of its pattern; answers the bytes of text written. A refused body leaves `text` as it was.
+pub fn print_pattern(body: &[u8], text: &mut [u8]) -> Result<usize, Refusal>
     ensures { PrintingOf body.now text.old text.new result }
 {
-    let check = body::check_body(body);
-    match check {
-        BodyCheck::Refused(r) => Printing::Refused(r),
-        BodyCheck::Sound => {
-            let mut made = [0u8; MOST_PRINTED];
-            let begin = printer::write_tree(
-                body,
-                body.len() / ENTRY_BYTES,
-                &mut made,
-                MOST_PRINTED,
-            );
-            let from = begin.byte;
-            let need = MOST_PRINTED - from;
-            if text.len() < need {
-                return Printing::Refused(Refusal::Room(need));
-            }
-            copying::copy(&made[from..], text);
-            Printing::Printed(need)
-        }
-    }
+    body::check_body(body)?;
+    let mut made: Backwards<MOST_PRINTED> = Backwards::new();
+    printer::write_tree(body, body.len() / ENTRY_BYTES, &mut made);
+    copying::copy_if_room(made.written(), text).map_err(Refusal::Room)
 }
 
-// 0..31 for a letter, 32 for any other byte.
-pub fn letter(byte: u8) -> u8
-    ensures { result ≡ letter_of byte }
+// The event type of a letter.
+#[tactic(auto, unfolding(crate::specs::Characters::letter_of))]
+pub fn letter(byte: u8) -> Option<u8>
+    ensures kind { result ≡ letter_of byte }
+    ensures exists { IfSome result (λ n. n < letters) }
 {
-    if byte < b'A' {
-        LETTERS
-    } else if byte <= b'Z' {
-        byte - b'A'
-    } else if byte < b'a' {
-        LETTERS
-    } else if byte <= b'f' {
-        byte - SMALL
-    } else {
-        LETTERS
+    match byte {
+        b'A'..=b'Z' => Some(byte - b'A'),
+        b'a'..=b'f' => Some(byte - b'a' + CAPITALS),
+        _ => None,
     }
 }
 
-// 0..9 for a digit, 10 for any other byte.
-pub fn digit(byte: u8) -> u8
+// The value of a digit.
+#[tactic(auto, unfolding(crate::specs::Characters::digit_of))]
+pub fn digit(byte: u8) -> Option<u8>
     ensures { result ≡ digit_of byte }
 {
-    let d = std::num::wrapping_sub_u8(byte, b'0');
-    if d < 10 { d } else { 10 }
+    match byte {
+        b'0'..=b'9' => Some(byte - b'0'),
+        _ => None,
+    }
 }

@@ -4,74 +4,57 @@ ghost use Rattle.rules.specs.Limits.{letters};
 ghost use Rattle.text.specs.Render.{letter_byte, op_byte};
 ghost use Rattle.text.specs.inner.Helpers.{TreeReady, TreeWritten};
 
-use super::reader::SMALL;
+use super::CAPITALS;
 use body::Entry;
+use decimal::Backwards;
 use rules::Op;
 
 // The bytes of the longest text that a body has.
 pub(crate) const MOST_PRINTED: usize = 807;
 
-// Where a written pattern begins: its first entry, and its first byte.
-#[derive(Clone, Copy)]
-pub(crate) struct Begin {
-    pub(crate) entry: usize,
-    pub(crate) byte: usize,
-}
-
-// Writes the pattern whose last entry is the one before entry `end`, so that its text ends before `at`: both are gone through backwards.
-pub(crate) fn write_tree(body: &[u8], end: usize, text: &mut [u8; MOST_PRINTED], at: usize) -> Begin
+// Writes the pattern whose last entry is the one before entry `end`, and answers its first entry.
+pub(crate) fn write_tree(body: &[u8], end: usize, text: &mut Backwards<MOST_PRINTED>) -> usize
     requires { TreeReady body.now end }
-    ensures { TreeWritten body.now end text.old text.new at result.entry result.byte }
+    ensures { TreeWritten body.now end text.old text.new result }
 {
     let last = end - 1;
-    let entry = body::entry_at(body, last);
-    match entry {
+    match body::entry_at(body, last) {
         Entry::Letter(n) => {
-            let byte = decimal::write_byte(text, at, letter_byte(n));
-            Begin {
-                entry: last,
-                byte: byte,
-            }
+            text.byte(letter_byte(n));
+            last
         }
         Entry::Pair(op) => {
-            let shut = decimal::write_byte(text, at, b')');
-            let right = write_tree(body, last, text, shut);
-            let middle = decimal::write_byte(text, right.byte, op_byte(op));
-            let left = write_tree(body, right.entry, text, middle);
-            let open = decimal::write_byte(text, left.byte, b'(');
-            Begin {
-                entry: left.entry,
-                byte: open,
-            }
+            text.byte(b')');
+            let right = write_tree(body, last, text);
+            text.byte(op_byte(op));
+            let left = write_tree(body, right, text);
+            text.byte(b'(');
+            left
         }
         Entry::Within(n) => {
-            let shut = decimal::write_byte(text, at, b')');
-            let number = decimal::write_number(text, shut, n);
-            let middle = decimal::write_byte(text, number, b'@');
-            let left = write_tree(body, last, text, middle);
-            let open = decimal::write_byte(text, left.byte, b'(');
-            Begin {
-                entry: left.entry,
-                byte: open,
-            }
+            text.byte(b')');
+            text.number(n);
+            text.byte(b'@');
+            let left = write_tree(body, last, text);
+            text.byte(b'(');
+            left
         }
         // no body that was found sound has such an entry
-        Entry::Wrong => Begin {
-            entry: last,
-            byte: at,
-        },
+        Entry::Wrong => last,
     }
 }
 
 // The letter of an event type.
+#[tactic(auto, unfolding(crate::specs::Render::letter_byte))]
 fn letter_byte(n: u64) -> u8
     requires { n < letters }
     ensures { result ≡ letter_byte n }
 {
-    if n < 26 {
-        n as u8 + b'A'
+    let kind = n as u8;
+    if kind < CAPITALS {
+        kind + b'A'
     } else {
-        n as u8 + SMALL
+        kind - CAPITALS + b'a'
     }
 }
 

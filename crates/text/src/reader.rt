@@ -1,171 +1,121 @@
-// Reading: an expression holds a tail, and a tail holds expressions. The bytes left to read fall at each call.
-ghost use Rattle.std.specs.Prelude.{◌≡◌, ◌≤◌, ◌∷◌, length};
-ghost use Rattle.rules.specs.Limits.{argument_bytes};
-ghost use Rattle.body.specs.Bytes.{bytes_of};
-ghost use Rattle.text.specs.inner.Machine.{sign_of, sign_number};
-ghost use Rattle.text.specs.inner.Helpers.{DecimalAt, Written, ExpressionAt, TailAt};
+// Reading: an expression holds a tail, and a tail holds expressions. The bytes left to read fall at each call. A place counts from the start of the
+// text, so the whole text goes along with it.
+ghost use Rattle.std.specs.Prelude.{◌≡◌, ◌≤◌, length};
+ghost use Rattle.text.specs.inner.Machine.{sign_of};
+ghost use Rattle.text.specs.inner.Helpers.{NumberAt, ExpressionAt, TailAt};
 
-use rules::{ENTRY_BYTES, LAST_TICK, MOST_BODY, MOST_ENTRIES};
+use super::made::Made;
+use rules::{LAST_TICK, Op};
 
-// The number of event types, as `letter` counts them.
-pub(crate) const LETTERS: u8 = 32;
-
-// A small letter less this is its event type: `a` is 26.
-pub(crate) const SMALL: u8 = 71;
-
-// Where an expression or a tail ends and the number of entries then, or the place where nothing could go on.
-#[derive(Clone, Copy)]
-pub(crate) enum Reach {
-    To(usize, usize),
-    Stuck(usize),
+// Where a number ends, and what it is.
+#[derive(Clone, Copy, Debug, PartialEq, Eq)]
+struct Number {
+    end: usize,
+    value: u32,
 }
 
-// Where a number ends and what it is, or the place where none could go on.
-#[derive(Clone, Copy)]
-enum Decimal {
-    Value(usize, u64),
-    Bad(usize),
+// What may follow a first operand: an operator, or `@`.
+#[derive(Clone, Copy, Debug, PartialEq, Eq)]
+enum Sign {
+    Operator(Op),
+    Limit,
 }
 
-// The expression that starts at `at`: a letter, or `(`, an expression, a tail and `)`. Its entries follow the `entries` that there are.
+// Reads the expression that starts at `at`: a letter, or `(`, an expression, a tail and `)`. Its entries follow those that there are. Answers where
+// it ends; an error is the place where nothing could go on.
 #[cycle(expression_tail)]
-pub(crate) fn expression(
-    text: &[u8],
-    at: usize,
-    body: &mut [u8; MOST_BODY],
-    entries: usize,
-) -> Reach
-    requires { (at ≤ length text.now) × (entries ≤ at) }
-    ensures { ExpressionAt text.now at entries body.old body.new result }
+pub(crate) fn expression(text: &[u8], at: usize, made: &mut Made) -> Result<usize, usize>
+    requires { (at ≤ length text.now) × (made.old.entries ≤ at) }
+    ensures { ExpressionAt text.now at made.old made.new result }
 {
     if at == text.len() {
-        return Reach::Stuck(at);
+        return Err(at);
     }
     let byte = text[at];
-    let kind = crate::letter(byte);
-    if kind < LETTERS {
-        put(body, entries, 0, kind as u64);
-        return Reach::To(at + 1, entries + 1);
+    if let Some(kind) = crate::letter(byte) {
+        made.push(0, u32::from(kind));
+        return Ok(at + 1);
     }
     if byte != b'(' {
-        return Reach::Stuck(at);
+        return Err(at);
     }
-    let left = expression(text, at + 1, body, entries);
-    match left {
-        Reach::Stuck(place) => Reach::Stuck(place),
-        Reach::To(middle, some) => {
-            let right = tail(text, middle, body, some);
-            match right {
-                Reach::Stuck(place) => Reach::Stuck(place),
-                Reach::To(last, all) => {
-                    if last == text.len() {
-                        return Reach::Stuck(last);
-                    }
-                    if text[last] != b')' {
-                        return Reach::Stuck(last);
-                    }
-                    Reach::To(last + 1, all)
-                }
-            }
-        }
+    let middle = expression(text, at + 1, made)?;
+    let last = tail(text, middle, made)?;
+    if last == text.len() || text[last] != b')' {
+        return Err(last);
     }
+    Ok(last + 1)
 }
 
-// The tail that starts at `at`, after a first operand: an operator and an expression, or `@` and a number.
+// Reads the tail that starts at `at`, after a first operand: an operator and an expression, or `@` and a number.
 #[cycle(expression_tail)]
-fn tail(text: &[u8], at: usize, body: &mut [u8; MOST_BODY], entries: usize) -> Reach
-    requires { (at ≤ length text.now) × (entries ≤ at) }
-    ensures { TailAt text.now at entries body.old body.new result }
+fn tail(text: &[u8], at: usize, made: &mut Made) -> Result<usize, usize>
+    requires { (at ≤ length text.now) × (made.old.entries ≤ at) }
+    ensures { TailAt text.now at made.old made.new result }
 {
     if at == text.len() {
-        return Reach::Stuck(at);
+        return Err(at);
     }
-    let op = sign(text[at]);
-    if op == 0 {
-        return Reach::Stuck(at);
-    }
-    if op == 5 {
-        let number = read_number(text, at + 1);
-        match number {
-            Decimal::Bad(place) => Reach::Stuck(place),
-            Decimal::Value(end, value) => {
-                put(body, entries, 5, value);
-                Reach::To(end, entries + 1)
-            }
+    match read_sign(text[at]) {
+        None => Err(at),
+        Some(Sign::Limit) => {
+            let number = read_number(text, at + 1)?;
+            made.push(5, number.value);
+            Ok(number.end)
         }
-    } else {
-        let operand = expression(text, at + 1, body, entries);
-        match operand {
-            Reach::Stuck(place) => Reach::Stuck(place),
-            Reach::To(end, some) => {
-                put(body, some, op, 0);
-                Reach::To(end, some + 1)
-            }
+        Some(Sign::Operator(op)) => {
+            let end = expression(text, at + 1, made)?;
+            made.push(body::op_number(op) as u8, 0);
+            Ok(end)
         }
     }
 }
 
-// The number that starts at `at`.
-fn read_number(text: &[u8], at: usize) -> Decimal
+// Reads the number that starts at `at`. An error is the place where none could go on.
+fn read_number(text: &[u8], at: usize) -> Result<Number, usize>
     requires { at ≤ length text.now }
-    ensures { DecimalAt text.now at result }
+    ensures { NumberAt text.now at result }
 {
     if at == text.len() {
-        return Decimal::Bad(at);
+        return Err(at);
     }
-    let d = crate::digit(text[at]);
-    if d > 9 {
-        return Decimal::Bad(at);
+    let Some(first) = crate::digit(text[at]) else {
+        return Err(at);
+    };
+    if first == 0 {
+        return Ok(Number {
+            end: at + 1,
+            value: 0,
+        });
     }
-    let mut value = d as u64;
-    let mut end = at + 1;
-    if value == 0 {
-        return Decimal::Value(end, 0);
-    }
-    while end < text.len() {
-        let e = crate::digit(text[end]);
-        if e > 9 {
-            return Decimal::Value(end, value);
-        }
-        let more = value * 10 + (e as u64);
+    let mut value = u32::from(first);
+    for end in at + 1..text.len() {
+        let Some(d) = crate::digit(text[end]) else {
+            return Ok(Number { end, value });
+        };
+        let more = u64::from(value) * 10 + u64::from(d);
         if more > LAST_TICK {
-            return Decimal::Bad(end);
+            return Err(end);
         }
-        value = more;
-        end += 1;
+        value = more as u32;
     }
-    Decimal::Value(end, value)
+    Ok(Number {
+        end: text.len(),
+        value,
+    })
 }
 
-// The op number of an operator or of `@`, 0 for any other byte.
-fn sign(byte: u8) -> u8
-    ensures { result ≡ sign_number (sign_of byte) }
+// The operator or the `@` that a byte is.
+#[tactic(auto, unfolding(crate::specs::inner::Machine::sign_of))]
+fn read_sign(byte: u8) -> Option<Sign>
+    ensures { result ≡ sign_of byte }
 {
-    if byte == b'|' {
-        1
-    } else if byte == b'+' {
-        2
-    } else if byte == b'-' {
-        3
-    } else if byte == b';' {
-        4
-    } else if byte == b'@' {
-        5
-    } else {
-        0
-    }
-}
-
-// Writes entry number `n`, its argument low byte first, where there is room for 63; any further one is only counted.
-fn put(body: &mut [u8; MOST_BODY], n: usize, op: u8, argument: u64)
-    ensures { Written body.old body.new n (op ∷ bytes_of argument_bytes argument) }
-{
-    if n < MOST_ENTRIES {
-        let at = n * ENTRY_BYTES;
-        body[at] = op;
-        body[at + 1] = (argument % 256) as u8;
-        body[at + 2] = (argument / 256 % 256) as u8;
-        body[at + 3] = (argument / 256 / 256 % 256) as u8;
-        body[at + 4] = (argument / 256 / 256 / 256 % 256) as u8;
+    match byte {
+        b'|' => Some(Sign::Operator(Op::Either)),
+        b'+' => Some(Sign::Operator(Op::Both)),
+        b'-' => Some(Sign::Operator(Op::Without)),
+        b';' => Some(Sign::Operator(Op::Chain)),
+        b'@' => Some(Sign::Limit),
+        _ => None,
     }
 }

@@ -1,15 +1,11 @@
 -- Chunks taken one after the other are an input given: what a call used of its chunk is given whole, and what is given after an input is given with it.
 -- Assumes nothing.
-use Prim.Native.Nat.{ℕ, ◌+◌, ◌-◌, ◌≤◌, min}
+use Rattle.std.specs.Prelude.{Result, None}
+use Rattle.std.specs.declared.io.Error.{Error}
+use Prim.Native.Nat.{ℕ, ◌+◌, ◌-◌, ◌≤◌}
 use mathlib.Core.Path.{◌≡◌, refl, sym, ap, subst, ◌∙◌}
 use mathlib.Core.List.{List, [], ◌∷◌, ◌++◌, append_assoc, append-nil}
 use native.Mathlib.Omega.{arith}
-use mir.Syntax.{w64}
-use mir.Val.{SFits, to_z, of_z}
-use mir.ValLaws.{to_z-of_z}
-use mathlib.Core.Bool.{true, false}
-use lib.IntN.{ℤ, pos, negsuc, nat_abs}
-use lib.Signed.{lt_z}
 use lib.ListN.{length, take, drop, length-append, length-take, length-drop, drop_of_length-le}
 use lib.Seq.{take_at, take-add, take_all}
 use Rattle.watching.specs.declared.Run.{Run}
@@ -20,7 +16,7 @@ use Rattle.watching.specs.Chunk.TakesBytes.{all, full, byte, line}
 use Rattle.watching.specs.Chunk.Given.{none, more}
 use Rattle.watching.proofs.Chunkings.{chunk_inside}
 use Rattle.watch.specs.declared.Progress.{Progress}
-use Rattle.watch.specs.Watch.{ChunkTaken, read_failed, ReadTaken, InputTaken}
+use Rattle.watch.specs.Watch.{ChunkTaken, ReadTaken, InputTaken}
 use Rattle.watch.specs.Watch.ReadTaken.{some, failed}
 
 -- bytes of which some are left are taken as those before them are taken alone
@@ -93,7 +89,7 @@ along_more {p' = p'} {chunk = chunk} {d' = d'} {at = at} a long x =
 
 -- and the whole of it, or as far as nothing failed
 pub along_ends : {first p : Progress} {chunk part₀ part state₀ state : List ℕ} {at : ℕ} → Along first chunk part₀ part state₀ state at p
-    → (p.fault ≡ 0 → at ≡ length chunk) → ChunkTaken first chunk part₀ part state₀ state p
+    → (p.fault ≡ None → at ≡ length chunk) → ChunkTaken first chunk part₀ part state₀ state p
 along_ends {at = at} a e = record { used = at; bytes = a.bytes; given = a.given; whole = e }
 
 -- before anything is read
@@ -110,33 +106,7 @@ input_more {chunk = chunk} i c = record {
 }
 
 -- what a read gave
-pub input_read : {part₀ part part' state₀ state state' buffer : List ℕ} {p r : Progress} {got : ℤ} → InputTaken part₀ part state₀ state p
+pub input_read : {part₀ part part' state₀ state state' buffer : List ℕ} {p r : Progress} {got : Result ℕ Error} → InputTaken part₀ part state₀ state p
     → ReadTaken p got buffer part part' state state' r → InputTaken part₀ part' state₀ state' r
 input_read i (some z t) = input_more i t
 input_read i (failed z e a b) = record { input = i.input; bytes = i.bytes; given = rw (e, a, b) i.given }
-
--- a number read back from its bits
-module _ (got : ℤ) (fits : SFits w64 got) where
-  abbrev bits : ℤ
-  bits = to_z w64 (of_z w64 got)
-
-  back : bits ≡ got
-  back = to_z-of_z w64 got fits
-
-  -- a read that failed
-  pub read_failed_holds : {buffer part state : List ℕ} {p : Progress} → lt_z bits (pos 0) ≡ true
-      → ReadTaken p got buffer part part state state (record { taken = p.taken; fault = read_failed })
-  read_failed_holds {buffer} {part} {state} {p} h = go got (rw back at h) refl
-    where
-      go : (z : ℤ) → lt_z z (pos 0) ≡ true → got ≡ z → ReadTaken p got buffer part part state state (record { taken = p.taken; fault = read_failed })
-      go (pos n) h e = absurd (grind (arith, h))
-      go (negsuc n) h e = failed e refl refl refl
-
-  -- one that did not
-  pub read_some : {buffer part part' state state' : List ℕ} {p r : Progress} {n : ℕ} → lt_z bits (pos 0) ≡ false
-      → n ≡ min (nat_abs bits) (length buffer) → ChunkTaken p (take (n - 0) buffer) part part' state state' r → ReadTaken p got buffer part part' state state' r
-  read_some {buffer} {part} {part'} {state} {state'} {p} {r} {n} h q t = go got (rw back at h) refl (rw back at q)
-    where
-      go : (z : ℤ) → lt_z z (pos 0) ≡ false → got ≡ z → n ≡ min (nat_abs z) (length buffer) → ReadTaken p got buffer part part' state state' r
-      go (pos k) h e q = let m : n - 0 ≡ min k (length buffer) = grind (arith, q) in some e (rw m at t)
-      go (negsuc k) h e q = absurd (grind (arith, h))

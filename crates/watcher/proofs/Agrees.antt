@@ -1,5 +1,6 @@
 -- A slice that was opened and then only ticked holds the memory that the detector's run leaves, so its answers are the rules'.
 -- Assumes nothing.
+use Rattle.std.specs.Prelude.{Err, None, Ok, Option, Result, Some}
 use Prim.Native.Nat.{ℕ, suc, ◌≤◌, ◌<◌}
 use mathlib.Core.Path.{◌≡◌, refl, sym, ap, subst, ◌∙◌}
 use mathlib.Core.List.{List, [], ◌∷◌, ◌++◌}
@@ -17,8 +18,6 @@ use Rattle.body.specs.Postfix.{Bodied}
 use Rattle.body.specs.Claim.{BodyOf}
 use Rattle.body.proofs.Bodies.{one_pattern}
 use Rattle.refusal.specs.declared.Refusal.{Refusal}
-use Rattle.watcher.specs.declared.Ticking.{Ticking}
-use Rattle.watcher.specs.declared.Ticking.TheVariants as Ticks
 use Rattle.watcher.specs.State.{next_of, state_of, room_of, InForm}
 use Rattle.watcher.specs.Answer.{IsOpened, IsTicked, TickRefused, over, broken, below, TickAnswers}
 use Rattle.watcher.specs.Claim.{Watched, opened, window, nothing, reported}
@@ -97,9 +96,9 @@ not_refused b x l k (over h q) = omega arith
 not_refused b x l k (broken h n q) = n (reached_form b x)
 not_refused b x l k (below h f m q) = omega (arith, reached_next x f)
 
-pub reached_answers : {e : Pattern} {h : List Tick} {s : List ℕ} (s' : List ℕ) (t w : ℕ) (r : Ticking) → Bodied argument_bytes e → Reached e h s
+pub reached_answers : {e : Pattern} {h : List Tick} {s : List ℕ} (s' : List ℕ) (t w : ℕ) (r : Result (Option ℕ) Refusal) → Bodied argument_bytes e → Reached e h s
     → next_tick 0 h ≤ t → t < ticks → TickAnswers s s' t w r
     → (a : ℕ) × reported a r × Latest (Has (record_of (h ++ ((t, w) ∷ []))) e) t a
-reached_answers s' t w (Ticks.Window start) b x l k i = (suc start, refl, ticked_right b x i)
-reached_answers s' t w Ticks.Nothing b x l k i = (0, refl, ticked_right b x i)
-reached_answers s' t w (Ticks.Refused r) b x l k i = absurd (not_refused b x l k i.0)
+reached_answers s' t w (Ok (Some start)) b x l k i = (suc start, refl, ticked_right b x i)
+reached_answers s' t w (Ok None) b x l k i = (0, refl, ticked_right b x i)
+reached_answers s' t w (Err r) b x l k i = absurd (not_refused b x l k i.0)

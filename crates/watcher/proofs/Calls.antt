@@ -1,5 +1,7 @@
 -- A tick's promise, from what the code computes: the form judged, the next tick allowed, and the walk over the entries.
 -- Two states in form with the same words give the same answer and the same words, as the walk goes by the words alone. Assumes nothing.
+use Rattle.std.specs.Prelude.{None, Ok, Option, Some}
+use Rattle.std.specs.Option.{SomeIff}
 use Prim.Native.Nat.{ℕ, suc, ◌-◌, ◌≤◌, ◌<◌}
 use mathlib.Core.Path.{◌≡◌, refl, sym, ap, subst, ◌∙◌}
 use mathlib.Core.Bool.{true, false}
@@ -9,10 +11,9 @@ use native.Mathlib.Omega.{arith}
 use Rattle.rules.proofs.Impossible.{impossible}
 use Rattle.rules.specs.Limits.{ticks}
 use Rattle.detector.specs.Step.{answer, next}
-use Rattle.refusal.specs.declared.Refusal.TheVariants.{State, Range, Late}
-use Rattle.watcher.specs.declared.Ticking.TheVariants.{Window, Nothing}
+use Rattle.refusal.specs.declared.Refusal.TheVariants.{State, Late}
 use Rattle.watcher.specs.State.{next_of, cells, state_of, InForm}
-use Rattle.watcher.specs.Answer.{TickReady, IsTicked, TickRefused, over, broken, below, TickAnswers}
+use Rattle.watcher.specs.Answer.{TickReady, IsTicked, TickRefused, broken, below, TickAnswers}
 use Rattle.watcher.specs.inner.Walk.{Value, Cells, tick_m, formed, ticked, last_answer, answer_of, words_after}
 use Rattle.watcher.specs.inner.Step.{StepsReady, StepsDone}
 use Rattle.watcher.proofs.Entries.{run_tree}
@@ -64,12 +65,9 @@ steps_ticked {s} {s'} {t} {w} {a} x d =
       words = d.words ∙ words_in_form f t w x.late;
     }
 
-module _ {s s' : List ℕ} {t w a : ℕ} (i : IsTicked s s' t w a) where
-  pub ticked_nothing : a ≡ 0 → TickAnswers s s' t w Nothing
-  ticked_nothing e = subst (IsTicked s s' t w) e i
-
-  pub ticked_window : (a ≡ 0 → ⊥) → TickAnswers s s' t w (Window (a - 1))
-  ticked_window n = let e : a ≡ suc (a - 1) = omega arith in subst (IsTicked s s' t w) e i
+pub ticked_answers : {s s' : List ℕ} {t w a : ℕ} → IsTicked s s' t w a → (r : Option ℕ) → SomeIff r (1 ≤ a) (a - 1) → TickAnswers s s' t w (Ok r)
+ticked_answers {s} {s'} {t} {w} {a} i None h = let e : a ≡ 0 = omega arith in subst (IsTicked s s' t w) e i
+ticked_answers {s} {s'} {t} {w} {a} i (Some n) h = let e : a ≡ suc n = omega arith in subst (IsTicked s s' t w) e i
 
 pub walked_as_ticked : (s : List ℕ) (t w : ℕ) → t < ticks → formed s ≡ true → next_of s ≤ t → IsTicked s (words_after t w s) t w (answer_of t w s)
 walked_as_ticked s t w r q l = steps_ticked (tick_ready r q l) (record { answer = refl; words = refl })
@@ -82,6 +80,3 @@ pub refused_late : (s : List ℕ) (t : ℕ) → t < ticks → formed s ≡ true 
 refused_late s t r q l =
     let f : InForm s = (formed_exactly s).0 q in
     below r f (omega (arith, next_word f)) refl
-
-pub refused_range : (s : List ℕ) (t : ℕ) → ticks ≤ t → TickRefused s t (Range 0)
-refused_range s t r = over r refl

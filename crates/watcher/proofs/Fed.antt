@@ -1,5 +1,6 @@
 -- The claims on feeding, proved: ticks taken one after the other are watched, are those of the walk, and none of them has a fault.
 -- Assumes nothing.
+use Rattle.std.specs.Prelude.{Err, None, Ok, Some}
 use Prim.Native.Nat.{ℕ, zero, suc, ◌+◌, ◌≤◌, ◌<◌}
 use mathlib.Core.Path.{◌≡◌, refl, sym, ap, subst, ◌∙◌}
 use mathlib.Core.List.{List, [], ◌∷◌, ◌++◌, append_assoc, append-nil}
@@ -17,8 +18,6 @@ use Rattle.rules.proofs.Decisions.{pick_no}
 use Rattle.body.specs.Claim.{BodyOf}
 use Rattle.refusal.specs.declared.Refusal.{Refusal}
 use Rattle.watcher.specs.State.{next_of}
-use Rattle.watcher.specs.declared.Ticking.TheVariants.{Window, Nothing}
-use Rattle.watcher.specs.declared.Feeding.TheVariants.{Fed, Refused}
 use Rattle.watcher.specs.Answer.{IsTicked}
 use Rattle.watcher.specs.inner.Walk.{answers_fed, words_fed}
 use Rattle.watcher.specs.Feed.{paired, AllTicked, none, more, first_fault, IsFed, FeedRefused, uneven, short, broken, faulty}
@@ -43,10 +42,10 @@ fed_watched b h (k ∷ ks) s s' l x (more {m = m} {l = l'} t w a i y) =
 pub answer_right : (b : List ℕ) (e : Pattern) → BodyOf argument_bytes b e → {h : List Tick} {s s' : List ℕ} (t w a : ℕ) → Watched b h s
     → next_tick 0 h ≤ t → IsTicked s s' t w a → Latest (Has (record_of (h ++ ((t, w) ∷ []))) e) t a
 answer_right b e o {h} {s} {s'} t w zero x l i =
-    let r = agrees b e o h s s' x t w Nothing l i.range i in
+    let r = agrees b e o h s s' x t w (Ok None) l i.range i in
     subst (Latest (Has (record_of (h ++ ((t, w) ∷ []))) e) t) r.1 r.2
 answer_right b e o {h} {s} {s'} t w (suc a) x l i =
-    let r = agrees b e o h s s' x t w (Window a) l i.range i in
+    let r = agrees b e o h s s' x t w (Ok (Some a)) l i.range i in
     subst (Latest (Has (record_of (h ++ ((t, w) ∷ []))) e) t) r.1 r.2
 
 -- the next tick that a watched state allows
@@ -61,7 +60,7 @@ all_right b e o (k ∷ ks) x (more t w a i y) =
     (answer_right b e o t w a x (omega (arith, i.late, next_word i.form)) i, all_right b e o ks (one_more t w a x i) y)
 
 -- ticks that rise and are in range have no fault
-rising_faultless : (ts ws : List ℕ) (i τ : ℕ) → length ts ≡ length ws → Rising τ (paired ts ws) → All (λ t. t < ticks) ts → first_fault i τ ts ≡ Fed
+rising_faultless : (ts ws : List ℕ) (i τ : ℕ) → length ts ≡ length ws → Rising τ (paired ts ws) → All (λ t. t < ticks) ts → first_fault i τ ts ≡ Ok tt
 unfolding paired first_fault
 rising_faultless [] ws i τ e r a = refl
 rising_faultless (t ∷ ts) [] i τ e r a = absurd (omega arith)
@@ -71,8 +70,8 @@ rising_faultless (t ∷ ts) (w ∷ ws) i τ e r a =
     ∙ rising_faultless ts ws (i + 1) (t + 1) (omega arith) (rw (add-one t) r.1) a.1
 
 pub fed_agrees : FedAgrees
-fed_agrees b e o h s s' x ts ws old new Fed v m r a i = (refl, i.answers, i.words, all_right b e o (paired ts ws) x i.taken)
-fed_agrees b e o h s s' x ts ws old new (Refused q) v m r a i = absurd (not_refused i.0)
+fed_agrees b e o h s s' x ts ws old new (Ok _) v m r a i = (refl, i.answers, i.words, all_right b e o (paired ts ws) x i.taken)
+fed_agrees b e o h s s' x ts ws old new (Err q) v m r a i = absurd (not_refused i.0)
   where
     not_refused : FeedRefused s ts ws old q → ⊥
     not_refused (uneven n p) = n v
@@ -80,7 +79,7 @@ fed_agrees b e o h s s' x ts ws old new (Refused q) v m r a i = absurd (not_refu
     not_refused (broken c l n p) = n (stays_in_form b h s x)
     not_refused (faulty c l f p) =
         let n : f.next ≡ next_tick 0 h = sym (next_word f) ∙ watched_next b e o x in
-        let k : first_fault 0 f.next ts ≡ Fed = rw n (rising_faultless ts ws 0 (next_tick 0 h) v r a) in
+        let k : first_fault 0 f.next ts ≡ Ok tt = rw n (rising_faultless ts ws 0 (next_tick 0 h) v r a) in
         impossible cc
 
 -- the walk's answers and words
@@ -94,7 +93,7 @@ fed_as_walked (k ∷ h) (more t w a i x) =
 
 -- no tick has a fault
 fed_faultless : (ts ws : List ℕ) (i : ℕ) {s l s' : List ℕ} → length ts ≡ length ws → AllTicked s (paired ts ws) l s'
-    → first_fault i (next_of s) ts ≡ Fed
+    → first_fault i (next_of s) ts ≡ Ok tt
 unfolding paired first_fault
 fed_faultless [] ws i e x = refl
 fed_faultless (t ∷ ts) [] i e x = absurd (omega arith)
@@ -116,7 +115,7 @@ fed_refused i (uneven n q) = n i.even
 fed_refused i (short e l q) = omega (arith, i.room)
 fed_refused i (broken e l n q) = n i.form
 fed_refused {s} {ts} {ws} i (faulty e l f q) =
-    let k : first_fault 0 f.next ts ≡ Fed = rw (next_word f) at (fed_faultless ts ws 0 e i.taken) in
+    let k : first_fault 0 f.next ts ≡ Ok tt = rw (next_word f) at (fed_faultless ts ws 0 e i.taken) in
     impossible cc
 
 one_feed_refusal : {s ts ws old : List ℕ} {r r' : Refusal} → FeedRefused s ts ws old r → FeedRefused s ts ws old r' → r ≡ r'
@@ -138,8 +137,8 @@ one_feed_refusal (faulty e l f q) (broken e' l' n q') = absurd (n f)
 one_feed_refusal (faulty e l f q) (faulty e' l' f' q') = let k : f.next ≡ f'.next = sym (next_word f) ∙ next_word f' in cc
 
 pub one_feeding : OneFeeding
-one_feeding s ts ws old s' s'' new new' Fed Fed i j = let o = one_fed i j in (refl, o.0, o.1)
-one_feeding s ts ws old s' s'' new new' Fed (Refused r) i j = absurd (fed_refused i j.0)
-one_feeding s ts ws old s' s'' new new' (Refused r) Fed i j = absurd (fed_refused j i.0)
-one_feeding s ts ws old s' s'' new new' (Refused r) (Refused r') i j =
-    (ap Refused (one_feed_refusal i.0 j.0), i.1 ∙ sym j.1, i.2 ∙ sym j.2)
+one_feeding s ts ws old s' s'' new new' (Ok _) (Ok _) i j = let o = one_fed i j in (refl, o.0, o.1)
+one_feeding s ts ws old s' s'' new new' (Ok _) (Err r) i j = absurd (fed_refused i j.0)
+one_feeding s ts ws old s' s'' new new' (Err r) (Ok _) i j = absurd (fed_refused j i.0)
+one_feeding s ts ws old s' s'' new new' (Err r) (Err r') i j =
+    (ap Err (one_feed_refusal i.0 j.0), i.1 ∙ sym j.1, i.2 ∙ sym j.2)

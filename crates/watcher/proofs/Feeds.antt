@@ -1,7 +1,8 @@
 -- Many ticks: a state stays in form after each, so all are taken if none is over the limit or below the next allowed; and a turn of the loop that
 -- takes them leads to the end of all. Assumes nothing.
+use Rattle.std.specs.Prelude.{Err, Ok}
 use Prim.Native.Nat.{ℕ, suc, ◌+◌, ◌≤◌, ◌<◌}
-use mathlib.Core.Path.{◌≡◌, refl, sym, ap, ◌∙◌}
+use mathlib.Core.Path.{◌≡◌, refl, sym, ◌∙◌}
 use mathlib.Core.Bool.{true, false}
 use mathlib.Core.List.{List, [], ◌∷◌, ◌++◌, append_assoc, append-nil}
 use native.Mathlib.Decide.{dec_le, dec_lt}
@@ -18,12 +19,11 @@ use Rattle.detector.specs.Step.{next}
 use Rattle.detector.proofs.Form.{in_form}
 use Rattle.refusal.specs.declared.Refusal.{Refusal}
 use Rattle.refusal.specs.declared.Refusal.TheVariants.{State, Range, Late}
-use Rattle.watcher.specs.declared.Feeding.TheVariants.{Fed, Refused}
 use Rattle.watcher.specs.State.{next_of, InForm}
 use Rattle.watcher.specs.Answer.{IsTicked}
 use Rattle.watcher.specs.inner.Walk.{formed, answer_of, words_after, answers_fed, words_fed}
 use Rattle.watcher.specs.Feed.{paired, AllTicked, none, more, first_fault, IsFed, FeedRefused, broken, faulty}
-use Rattle.watcher.specs.inner.Step.{StepsReady, StepsDone, FeedReady, FeedDone}
+use Rattle.watcher.specs.inner.Step.{StepsReady, FeedReady, FeedDone}
 use Rattle.watcher.proofs.States.{next_word}
 use Rattle.watcher.proofs.Judges.{formed_exactly}
 use Rattle.watcher.proofs.Calls.{walked_as_ticked}
@@ -55,13 +55,13 @@ module _ (s : List ℕ) (t w : ℕ) (r : t < ticks) (q : formed s ≡ true) (l :
 record Faultless (i τ t : ℕ) (ts : List ℕ) : Type 0 where
   range : t < ticks
   late : τ ≤ t
-  rest : first_fault (i + 1) (t + 1) ts ≡ Fed
+  rest : first_fault (i + 1) (t + 1) ts ≡ Ok tt
 
-faultless : (i τ t : ℕ) (ts : List ℕ) → first_fault i τ (t ∷ ts) ≡ Fed → Faultless i τ t ts
+faultless : (i τ t : ℕ) (ts : List ℕ) → first_fault i τ (t ∷ ts) ≡ Ok tt → Faultless i τ t ts
 unfolding first_fault
 faultless i τ t ts q = go (dec_le ticks t) (dec_lt t τ) q
   where
-    go : (d : Dec (ticks ≤ t)) (e : Dec (t < τ)) → pick d (Refused (Range i)) (pick e (Refused (Late i)) (first_fault (i + 1) (t + 1) ts)) ≡ Fed
+    go : (d : Dec (ticks ≤ t)) (e : Dec (t < τ)) → pick d (Err (Range i)) (pick e (Err (Late i)) (first_fault (i + 1) (t + 1) ts)) ≡ Ok tt
         → Faultless i τ t ts
     go (yes h) e q = impossible cc
     go (no h) (yes l) q = impossible cc
@@ -69,16 +69,16 @@ faultless i τ t ts q = go (dec_le ticks t) (dec_lt t τ) q
 
 -- the first tick's fault, by a loop's tests
 module _ (ts : List ℕ) (i τ : ℕ) where
-  pub fault_end : length ts ≤ i → first_fault i τ (drop i ts) ≡ Fed
+  pub fault_end : length ts ≤ i → first_fault i τ (drop i ts) ≡ Ok tt
   unfolding first_fault
   fault_end h = rw (drop_of_length-le ts h)
 
   module _ (h : i < length ts) where
-    pub fault_range : ticks ≤ get_or ts i 0 → first_fault i τ (drop i ts) ≡ Refused (Range i)
+    pub fault_range : ticks ≤ get_or ts i 0 → first_fault i τ (drop i ts) ≡ Err (Range i)
     unfolding first_fault
     fault_range k = rw (drop_at ts i h) (pick_yes (dec_le ticks (get_or ts i 0)) _ _ k)
 
-    pub fault_late : get_or ts i 0 < ticks → get_or ts i 0 < τ → first_fault i τ (drop i ts) ≡ Refused (Late i)
+    pub fault_late : get_or ts i 0 < ticks → get_or ts i 0 < τ → first_fault i τ (drop i ts) ≡ Err (Late i)
     unfolding first_fault
     fault_late k l = rw (drop_at ts i h) (pick_no (dec_le ticks (get_or ts i 0)) _ _ (λ z. omega arith) ∙ pick_yes (dec_lt (get_or ts i 0) τ) _ _ l)
 
@@ -87,7 +87,7 @@ module _ (ts : List ℕ) (i τ : ℕ) where
     fault_none k l = rw (drop_at ts i h) (pick_no (dec_le ticks (get_or ts i 0)) _ _ (λ z. omega arith) ∙ pick_no (dec_lt (get_or ts i 0) τ) _ _ (λ z. omega arith))
 
 -- so all are taken
-pub all_ticked : (ts ws s : List ℕ) (i : ℕ) → length ts ≡ length ws → formed s ≡ true → first_fault i (next_of s) ts ≡ Fed
+pub all_ticked : (ts ws s : List ℕ) (i : ℕ) → length ts ≡ length ws → formed s ≡ true → first_fault i (next_of s) ts ≡ Ok tt
     → AllTicked s (paired ts ws) (answers_fed (paired ts ws) s) (words_fed (paired ts ws) s)
 unfolding paired answers_fed words_fed
 all_ticked [] ws s i e f q = none
@@ -104,7 +104,7 @@ pub record Feeds (s₀ ts ws old s new : List ℕ) (i : ℕ) : Type 0 where
   pub state_long : length s ≡ length s₀
   pub long : length new ≡ length old
   pub form : formed s ≡ true
-  pub sound : first_fault i (next_of s) (drop i ts) ≡ Fed
+  pub sound : first_fault i (next_of s) (drop i ts) ≡ Ok tt
   pub words : words_fed (paired (drop i ts) (drop i ws)) s ≡ words_fed (paired ts ws) s₀
   pub answers : take i new ++ answers_fed (paired (drop i ts) (drop i ws)) s ≡ answers_fed (paired ts ws) s₀
   pub kept : drop (length ts) new ≡ drop (length ts) old
@@ -181,19 +181,5 @@ module _ (s ts ws old : List ℕ) (even : length ts ≡ length ws) (room : lengt
   fed_broken q =
       broken even room (λ f. let e : formed s ≡ true = (formed_exactly s).1 f in impossible cc) refl
 
-  pub fed_faulty : formed s ≡ true → (r : Refusal) → first_fault 0 (next_of s) ts ≡ Refused r → FeedRefused s ts ws old r
+  pub fed_faulty : formed s ≡ true → (r : Refusal) → first_fault 0 (next_of s) ts ≡ Err r → FeedRefused s ts ws old r
   fed_faulty q r e = let f : InForm s = (formed_exactly s).0 q in faulty even room f (rw (next_word f) at e)
-
--- one tick, as one of many
-pub one_ready : {s : List ℕ} {t : ℕ} (w a : ℕ) → StepsReady s t → FeedReady s (t ∷ []) (w ∷ []) (a ∷ [])
-unfolding first_fault
-one_ready {s} {t} w a r = record {
-  form = r.form;
-  even = refl;
-  room = omega arith;
-  sound = pick_no (dec_le ticks t) _ _ (λ h. omega (arith, r.range)) ∙ pick_no (dec_lt t (next_of s)) _ _ (λ h. omega (arith, r.late));
-}
-
-pub one_done : {s : List ℕ} {t w a : ℕ} {s' new : List ℕ} → FeedDone s (t ∷ []) (w ∷ []) (a ∷ []) s' new → StepsDone s t w s' (get_or new 0 0)
-unfolding paired answers_fed words_fed
-one_done d = record { answer = ap (λ (l : List ℕ). get_or l 0 0) d.answers; words = d.words }

@@ -8,6 +8,7 @@ use native.Mathlib.Omega.{arith}
 use lib.Dec.{ltb, leb, eqb}
 use lib.ListN.{length}
 use borrow.Author.Tests.{lt-ltb, le-leb, eq-eqb, ne_eqb, ltb-true, leb-true, eqb-true, eqb-false}
+use Rattle.std.proofs.lemmas.Bool.{and_parts}
 use Rattle.rules.proofs.Decisions.{both_true}
 use Rattle.rules.specs.declared.Op.{Op}
 use Rattle.rules.specs.declared.Op.TheVariants.{Either, Both, Without, Chain}
@@ -49,8 +50,8 @@ zeros_sound zero (a ∷ c) l q = absurd (omega arith)
 zeros_sound (suc n) [] l q = absurd (omega arith)
 zeros_sound (suc n) (a ∷ []) l q = absurd (omega arith)
 zeros_sound (suc n) (a ∷ b ∷ c) l q =
-    let u = both_true (eqb a 0) (cond (eqb b 0) (all_zero c) false) q in
-    let v = both_true (eqb b 0) (all_zero c) u.1 in
+    let u = and_parts (eqb a 0) (all_zero (b ∷ c)) q in
+    let v = and_parts (eqb b 0) (all_zero c) u.1 in
     rw (eqb-true a 0 u.0, eqb-true b 0 v.0, zeros_sound n c (omega arith) v.1)
 
 zeros_complete : (n : ℕ) → all_zero (kept_words n []) ≡ true

@@ -1,10 +1,11 @@
 -- The form judged is the form stated: on a tree the judge takes exactly the words of a memory in form, and the entries are a tree's.
 -- Assumes nothing.
-use Prim.Native.Nat.{ℕ, ◌+◌, ◌-◌, ◌≤◌, ◌<◌, ◌^◌}
+use Rattle.std.specs.Prelude.{None, Option, Some}
+use Rattle.std.specs.Option.{is_some}
+use Prim.Native.Nat.{ℕ, ◌+◌, ◌-◌, ◌≤◌, ◌^◌}
 use mathlib.Core.Path.{◌≡◌, refl, sym, ap, ap₂, subst, ◌∙◌}
 use mathlib.Core.Bool.{Bool, true, false, cond}
 use mathlib.Core.List.{List, [], ◌∷◌, ◌++◌}
-use mathlib.Core.Option.{Option, none, some}
 use native.Mathlib.Omega.{arith}
 use lib.Dec.{leb}
 use lib.ListN.{length, take, drop, length-append, take-append-drop}
@@ -32,7 +33,7 @@ use Rattle.body.proofs.Trees.{size_pos, length_postfix, proper_fits, fits_proper
 use Rattle.cell.specs.Cell.{cell_words, possible}
 use Rattle.cell.specs.Form.{cell_fits}
 use Rattle.watcher.specs.State.{header, count_of, next_of, entry_words, cells, state_of, room_of, InForm}
-use Rattle.watcher.specs.inner.Walk.{entry_in, judge_cell, on_ahead, judge_m, is_some, is_none, judged, formed, end_by, extent}
+use Rattle.watcher.specs.inner.Walk.{entry_in, judge_cell, on_ahead, judge_m, is_none, judged, formed, end_by, extent}
 use Rattle.watcher.specs.Claim.{FormedExactly, ExtentExactly}
 use Rattle.watcher.proofs.Entries.{Fitting, words_entries, read_fits, run_tree}
 use Rattle.watcher.proofs.States.{state_parts, length_state, count_word, next_word, entries_read, cells_from, state_long}
@@ -46,7 +47,7 @@ record Taken (τ : ℕ) (op : Op) (y : ℕ) (ahead rest : List ℕ) : Type 0 whe
   fits : cell_fits τ op cell ≡ true
   same : ahead ≡ cell ++ rest
 
-cell_sound : (τ : ℕ) (op : Op) (y : ℕ) (ahead rest : List ℕ) → judge_cell τ op y ahead ≡ some rest → Taken τ op y ahead rest
+cell_sound : (τ : ℕ) (op : Op) (y : ℕ) (ahead rest : List ℕ) → judge_cell τ op y ahead ≡ Some rest → Taken τ op y ahead rest
 unfolding judge_cell
 cell_sound τ op y ahead rest q = go (leb n (length ahead)) (cell_fits τ op (take n ahead)) refl refl q
   where
@@ -54,7 +55,7 @@ cell_sound τ op y ahead rest q = go (leb n (length ahead)) (cell_fits τ op (ta
     n = cell_words op y
 
     go : (t u : Bool) → leb n (length ahead) ≡ t → cell_fits τ op (take n ahead) ≡ u
-        → cond t (cond u (some (drop n ahead)) none) none ≡ some rest → Taken τ op y ahead rest
+        → cond t (cond u (Some (drop n ahead)) None) None ≡ Some rest → Taken τ op y ahead rest
     go true true a b q =
         let e : drop n ahead ≡ rest = cc in
         record {
@@ -67,7 +68,7 @@ cell_sound τ op y ahead rest q = go (leb n (length ahead)) (cell_fits τ op (ta
     go false u a b q = impossible cc
 
 cell_complete : (τ : ℕ) (op : Op) (y : ℕ) (c rest : List ℕ) → length c ≡ cell_words op y → cell_fits τ op c ≡ true
-    → judge_cell τ op y (c ++ rest) ≡ some rest
+    → judge_cell τ op y (c ++ rest) ≡ Some rest
 unfolding judge_cell
 cell_complete τ op y c rest l f =
     let k : cell_words op y ≤ length (c ++ rest) = omega (arith, length-append c rest) in
@@ -82,13 +83,13 @@ judge_p τ (pair op x y) g =
 judge_p τ (within x n) g = judge_p τ x g
 
 -- once refused, always refused
-judge_none : (τ : ℕ) (e : Pattern) → (eval (judge_m τ) e none).1 ≡ none
+judge_none : (τ : ℕ) (e : Pattern) → (eval (judge_m τ) e None).1 ≡ None
 unfolding eval
 judge_none τ (event n) = refl
 judge_none τ (pair op x y) = rw (judge_none τ x, judge_none τ y)
 judge_none τ (within x n) = judge_none τ x
 
-step_none : (τ : ℕ) (s : Entry) (st : List ℕ) → (step (judge_m τ) s st none).1 ≡ none
+step_none : (τ : ℕ) (s : Entry) (st : List ℕ) → (step (judge_m τ) s st None).1 ≡ None
 unfolding step
 step_none τ (Letter n) st = refl
 step_none τ (Pair op) [] = refl
@@ -98,26 +99,26 @@ step_none τ (Within n) [] = refl
 step_none τ (Within n) (x ∷ st) = refl
 step_none τ Wrong st = refl
 
-pub run_none : (τ : ℕ) (ss : List Entry) (st : List ℕ) → (run (judge_m τ) ss st none).1 ≡ none
+pub run_none : (τ : ℕ) (ss : List Entry) (st : List ℕ) → (run (judge_m τ) ss st None).1 ≡ None
 unfolding run
 run_none τ [] st = refl
 run_none τ (s ∷ ss) st =
-    ap (λ (g : Option (List ℕ)). (run (judge_m τ) ss (step (judge_m τ) s st none).0 g).1) (step_none τ s st)
-    ∙ run_none τ ss (step (judge_m τ) s st none).0
+    ap (λ (g : Option (List ℕ)). (run (judge_m τ) ss (step (judge_m τ) s st None).0 g).1) (step_none τ s st)
+    ∙ run_none τ ss (step (judge_m τ) s st None).0
 
-not_some : {A : Type 0} (l : List ℕ) → none ≡ some l → A
+not_some : {A : Type 0} (l : List ℕ) → None ≡ Some l → A
 not_some l q = impossible cc
 
 -- an operator's words: its operands' and its own
 pair_found : (τ : ℕ) (op : Op) (x y : Pattern) (ahead rest : List ℕ) (g h : Option (List ℕ))
-    → (eval (judge_m τ) x (some ahead)).1 ≡ g → (eval (judge_m τ) y g).1 ≡ h → on_ahead h (judge_cell τ op (p y)) ≡ some rest
-    → ((a : List ℕ) → (eval (judge_m τ) x (some ahead)).1 ≡ some a → Found τ x ahead a)
-    → ((a b : List ℕ) → (eval (judge_m τ) y (some a)).1 ≡ some b → Found τ y a b)
+    → (eval (judge_m τ) x (Some ahead)).1 ≡ g → (eval (judge_m τ) y g).1 ≡ h → on_ahead h (judge_cell τ op (p y)) ≡ Some rest
+    → ((a : List ℕ) → (eval (judge_m τ) x (Some ahead)).1 ≡ Some a → Found τ x ahead a)
+    → ((a b : List ℕ) → (eval (judge_m τ) y (Some a)).1 ≡ Some b → Found τ y a b)
     → Found τ (pair op x y) ahead rest
-pair_found τ op x y ahead rest none none d e q f k = not_some rest q
-pair_found τ op x y ahead rest none (some b) d e q f k = not_some b (sym (judge_none τ y) ∙ e)
-pair_found τ op x y ahead rest (some a) none d e q f k = not_some rest q
-pair_found τ op x y ahead rest (some a) (some b) d e q f k =
+pair_found τ op x y ahead rest None None d e q f k = not_some rest q
+pair_found τ op x y ahead rest None (Some b) d e q f k = not_some b (sym (judge_none τ y) ∙ e)
+pair_found τ op x y ahead rest (Some a) None d e q f k = not_some rest q
+pair_found τ op x y ahead rest (Some a) (Some b) d e q f k =
     let u = f a d in
     let v = k a b e in
     let c = cell_sound τ op (p y) b rest q in
@@ -126,18 +127,18 @@ pair_found τ op x y ahead rest (some a) (some b) d e q f k =
     (own_found τ x y u.memory v.memory u.form v.form rest op c.cell c.whole c.fits)
 
 -- what is taken is the words of a memory in form
-judge_sound : (τ : ℕ) (e : Pattern) (ahead rest : List ℕ) → (eval (judge_m τ) e (some ahead)).1 ≡ some rest → Found τ e ahead rest
+judge_sound : (τ : ℕ) (e : Pattern) (ahead rest : List ℕ) → (eval (judge_m τ) e (Some ahead)).1 ≡ Some rest → Found τ e ahead rest
 unfolding eval cells
 judge_sound τ (event n) ahead rest q = record { memory = tt; form = tt; same = cc }
 judge_sound τ (pair op x y) ahead rest q =
-    let g : Option (List ℕ) = (eval (judge_m τ) x (some ahead)).1 in
+    let g : Option (List ℕ) = (eval (judge_m τ) x (Some ahead)).1 in
     pair_found τ op x y ahead rest g (eval (judge_m τ) y g).1 refl refl (rw (judge_p τ y g) at q)
     (λ a. judge_sound τ x ahead a) (λ a b. judge_sound τ y a b)
 judge_sound τ (within x n) ahead rest q =
     let k = judge_sound τ x ahead rest q in record { memory = k.memory; form = k.form; same = k.same }
 
 -- and the words of a memory in form are taken
-judge_complete : (τ : ℕ) (e : Pattern) (m : Memory e) (rest : List ℕ) → Form τ e m → (eval (judge_m τ) e (some (cells e m ++ rest))).1 ≡ some rest
+judge_complete : (τ : ℕ) (e : Pattern) (m : Memory e) (rest : List ℕ) → Form τ e m → (eval (judge_m τ) e (Some (cells e m ++ rest))).1 ≡ Some rest
 unfolding eval cells
 judge_complete τ (event n) m rest f = refl
 judge_complete τ (pair op x y) m rest f =
@@ -145,7 +146,7 @@ judge_complete τ (pair op x y) m rest f =
       cells_ahead op x y m rest,
       judge_complete τ x (left op x y m) (cells y (right op x y m) ++ (own op x y m ++ rest)) (form_left τ op x y m f),
       judge_complete τ y (right op x y m) (own op x y m ++ rest) (form_right τ op x y m f),
-      judge_p τ y (some (cells y (right op x y m) ++ (own op x y m ++ rest))),
+      judge_p τ y (Some (cells y (right op x y m) ++ (own op x y m ++ rest))),
     )
     (cell_complete τ op (p y) (own op x y m) rest (length_own op x y m) (own_fits τ op x y m f))
 judge_complete τ (within x n) m rest f = judge_complete τ x m rest f
@@ -155,13 +156,13 @@ pub record Judged (s : List ℕ) : Type 0 where
   pub least : 1 ≤ count_of s
   pub most : count_of s ≤ most_entries
   pub long : header + count_of s ≤ length s
-  pub sound : scan (entries_by (entry_in s) 0 (count_of s)) 0 0 ≡ none
+  pub sound : scan (entries_by (entry_in s) 0 (count_of s)) 0 0 ≡ None
   pub early : next_of s ≤ ticks
   pub taken : is_some (judged s) ≡ true
 
-none_of : (o : Option ℕ) → is_none o ≡ true → o ≡ none
-none_of none q = refl
-none_of (some i) q = impossible cc
+none_of : (o : Option ℕ) → is_none o ≡ true → o ≡ None
+none_of None q = refl
+none_of (Some i) q = impossible cc
 
 pub formed_judged : (s : List ℕ) → formed s ≡ true → Judged s
 unfolding formed
@@ -198,9 +199,9 @@ judge_run τ es e ahead q =
     ap (λ (l : List Entry). (run (judge_m τ) l [] ahead).1) q
     ∙ ap (λ (r : List ℕ × Option (List ℕ)). r.1) (run_tree (judge_m τ) e ahead)
 
-some_of : (o : Option (List ℕ)) → is_some o ≡ true → (l : List ℕ) × (o ≡ some l)
-some_of none q = impossible cc
-some_of (some l) q = (l, refl)
+some_of : (o : Option (List ℕ)) → is_some o ≡ true → (l : List ℕ) × (o ≡ Some l)
+some_of None q = impossible cc
+some_of (Some l) q = (l, refl)
 
 two_words : (s : List ℕ) → 2 ≤ length s → s ≡ count_of s ∷ next_of s ∷ drop 2 s
 two_words [] h = absurd (omega arith)
@@ -225,7 +226,7 @@ judged_in_form s j =
     let fitting : All Fitting es = rw tree.1 (proper_fits bound e proper) in
     let words : drop 2 s ≡ entry_words es ++ drop (2 + n) s = words_entries n s 0 j.long fitting in
     let count : n ≡ size e = sym (length_by (entry_in s) 0 n) ∙ ap length tree.1 ∙ length_postfix e in
-    let ahead : Option (List ℕ) = some (drop (2 + n) s) in
+    let ahead : Option (List ℕ) = Some (drop (2 + n) s) in
     let end = some_of (run (judge_m τ) es [] ahead).1 j.taken in
     let found = judge_sound τ e (drop (2 + n) s) end.0 (sym (judge_run τ es e ahead tree.1) ∙ end.1) in
     record {
@@ -242,12 +243,12 @@ judged_in_form s j =
     }
 
 -- the words beyond the cells of a state in form
-pub in_form_cells : (s : List ℕ) (f : InForm s) → judged s ≡ some f.beyond
+pub in_form_cells : (s : List ℕ) (f : InForm s) → judged s ≡ Some f.beyond
 unfolding judged
 in_form_cells s f =
     let e : Pattern = f.pattern in
-    judge_run (next_of s) (entries_by (entry_in s) 0 (count_of s)) e (some (drop (header + count_of s) s)) (entries_read f)
-    ∙ ap₂ (λ (τ : ℕ) (l : List ℕ). (eval (judge_m τ) e (some l)).1) (next_word f) (cells_from f)
+    judge_run (next_of s) (entries_by (entry_in s) 0 (count_of s)) e (Some (drop (header + count_of s) s)) (entries_read f)
+    ∙ ap₂ (λ (τ : ℕ) (l : List ℕ). (eval (judge_m τ) e (Some l)).1) (next_word f) (cells_from f)
     ∙ judge_complete f.next e f.memory f.beyond f.form
 
 in_form_judged : (s : List ℕ) → InForm s → Judged s
@@ -263,7 +264,7 @@ in_form_judged s f =
     }
 
 -- the words of a state in form: all but those beyond
-pub in_form_extent : (s : List ℕ) (f : InForm s) → extent s ≡ length s - length f.beyond
+pub in_form_extent : (s : List ℕ) (f : InForm s) → extent s ≡ Some (length s - length f.beyond)
 unfolding extent
 in_form_extent s f = rw (judged_formed s (in_form_judged s f), in_form_cells s f)
 
@@ -272,30 +273,26 @@ pub formed_exactly : FormedExactly
 formed_exactly s = ((λ q. judged_in_form s (formed_judged s q)), (λ f. judged_formed s (in_form_judged s f)))
 
 -- and a state is in form exactly where it has words
-pub extent_formed : (s : List ℕ) → 0 < extent s → formed s ≡ true
+pub extent_formed : (s : List ℕ) {n : ℕ} → extent s ≡ Some n → formed s ≡ true
 unfolding extent
-extent_formed s h = go (formed s) refl h
+extent_formed s {n} h = go (formed s) refl h
   where
-    go : (t : Bool) → formed s ≡ t → 0 < cond t (end_by (length s) (judged s)) 0 → formed s ≡ true
+    go : (t : Bool) → formed s ≡ t → cond t (end_by (length s) (judged s)) None ≡ Some n → formed s ≡ true
     go true q k = q
-    go false q k = absurd (omega arith)
+    go false q k = impossible cc
 
-pub extent_broken : (s : List ℕ) → extent s ≤ 0 → formed s ≡ false
+pub extent_broken : (s : List ℕ) → extent s ≡ None → formed s ≡ false
 extent_broken s h = go (formed s) refl
   where
     go : (t : Bool) → formed s ≡ t → formed s ≡ false
-    go true q =
-        let f : InForm s = judged_in_form s (formed_judged s q) in
-        absurd (omega (arith, in_form_extent s f, ap length f.same, length-append (state_of f.pattern f.next f.memory) f.beyond))
+    go true q = let e = in_form_extent s (judged_in_form s (formed_judged s q)) in impossible cc
     go false q = q
 
 pub extent_exactly : ExtentExactly
-extent_exactly s = ((λ h. (formed_exactly s).0 (extent_formed s h), λ f. some f), room)
+extent_exactly s = ((λ h. (formed_exactly s).0 (extent_formed s h.1), λ f. (room_of f.pattern, room f)), room)
   where
-    room : (f : InForm s) → extent s ≡ room_of f.pattern
+    room : (f : InForm s) → extent s ≡ Some (room_of f.pattern)
     room f =
         let own : List ℕ = state_of f.pattern f.next f.memory in
-        omega (arith, in_form_extent s f, ap length f.same, length-append own f.beyond, length_state f.pattern f.next f.memory)
-
-    some : InForm s → 0 < extent s
-    some f = omega (arith, room f)
+        let e : length s - length f.beyond ≡ room_of f.pattern = omega (arith, ap length f.same, length-append own f.beyond, length_state f.pattern f.next f.memory) in
+        in_form_extent s f ∙ ap Some e

@@ -1,5 +1,6 @@
 -- Opening's promise, from what the code computes: the walk over a sound body sums its room, and a fresh memory has zeros in every cell.
 -- Assumes nothing.
+use Rattle.std.specs.Prelude.{Ok}
 use Prim.Native.Nat.{ℕ, zero, suc, ◌+◌, ◌*◌, ◌/◌, ◌≤◌, ◌<◌}
 use mathlib.Core.Path.{◌≡◌, refl, sym, ap, ◌∙◌}
 use mathlib.Core.List.{List, [], ◌∷◌, ◌++◌, append_assoc}
@@ -16,7 +17,6 @@ use Rattle.refusal.specs.declared.Refusal.TheVariants.{Room}
 use Rattle.detector.specs.Memory.{fresh}
 use Rattle.detector.specs.Possible.{p}
 use Rattle.body.specs.declared.Entry.{Entry}
-use Rattle.body.specs.declared.BodyCheck.TheVariants.{Sound}
 use Rattle.body.specs.Bytes.{Bytes}
 use Rattle.body.specs.Entry.{entry_at, entries_by, entries}
 use Rattle.body.specs.Postfix.{postfix}
@@ -27,9 +27,11 @@ use Rattle.body.proofs.Sizes.{whole_count}
 use Rattle.body.proofs.Bodies.{length_encode, entries_encode, sound_pattern, length_by, length_read}
 use Rattle.cell.specs.Words.{kept_words}
 use Rattle.cell.specs.Cell.{cell_words}
-use Rattle.watcher.specs.declared.Needed.TheVariants as Needs
 use Rattle.watcher.specs.State.{word_of, entry_words, cells, cell_room, room_of, state_of}
 use Rattle.watcher.specs.Answer.{RoomAnswers, IsOpened, OpenRefused, short}
+use Rattle.watcher.specs.State.{header}
+use Rattle.watcher.specs.inner.Form.{OpenReady}
+use Rattle.body.proofs.Walk.{sound_start}
 use Rattle.watcher.specs.inner.Walk.{room_m, cells_needed, words_needed, words_opened}
 use Rattle.watcher.proofs.Entries.{run_tree, length_words}
 use Rattle.watcher.proofs.States.{state_parts}
@@ -107,8 +109,8 @@ module _ (b : List ℕ) (e : Pattern) (w : BodyOf argument_bytes b e) where
       rw (body_count, body_entries, body_cells, body_room, ← fresh_zeros e) (sym (state_parts e 0 (fresh e) (drop (room_of e) old)))
 
 -- what the code tests and computes is what is promised
-module _ (b : List ℕ) (bytes : Bytes b) (sound : check_of argument_bytes b ≡ Sound) where
-  pub room_answers : RoomAnswers b (Needs.Words (words_needed b))
+module _ (b : List ℕ) (bytes : Bytes b) (sound : check_of argument_bytes b ≡ Ok tt) where
+  pub room_answers : RoomAnswers b (Ok (words_needed b))
   room_answers = let f = sound_pattern argument_bytes b bytes sound in (f.0, f.1, body_room b f.0 f.1)
 
   pub opened_as_written : (old : List ℕ) → words_needed b ≤ length old → IsOpened b old (words_opened b old)
@@ -121,10 +123,16 @@ module _ (b : List ℕ) (bytes : Bytes b) (sound : check_of argument_bytes b ≡
         words = body_opened b f.0 f.1 old;
       }
 
-  pub refused_room : (old : List ℕ) → length old < words_needed b → OpenRefused b old (Room (words_needed b))
-  refused_room old h =
+  pub refused_room : (old : List ℕ) (n : ℕ) → n ≡ words_needed b → length old < n → OpenRefused b old (Room n)
+  refused_room old n e h =
       let f = sound_pattern argument_bytes b bytes sound in
-      short f.0 f.1 (omega (arith, body_room b f.0 f.1)) (ap Room (body_room b f.0 f.1))
+      short f.0 f.1 (omega (arith, body_room b f.0 f.1)) (ap Room (e ∙ body_room b f.0 f.1))
+
+  pub open_ready : (s : List ℕ) (n cells : ℕ) → n ≡ length b / (argument_bytes + 1) → cells ≡ cells_needed b → header + n + cells ≤ length s
+      → OpenReady b s n cells
+  open_ready s n cells e k h =
+      let full = (sound_start argument_bytes b sound).full in
+      record { whole = omega arith; cells_sum = k; room = h }
 
 -- the words of an opened state, one by one, for the loops that write them
 word_by : (f : ℕ → Entry) (i n k : ℕ) → k < n → get_or (entry_words (entries_by f i n)) k 0 ≡ word_of (f (i + k))

@@ -5,25 +5,27 @@ use mathlib.Core.List.{List}
 use Prim.Native.Nat.{ℕ, ◌+◌, ◌-◌, ◌/◌, ◌^◌, ◌≤◌, ◌<◌}
 use native.Mathlib.Decide.{ℕ_discrete, dec_lt}
 use native.Mathlib.Omega.{arith}
-use lib.ListN.{get_or, set, length, length-set}
+use Rattle.std.proofs.Common.{rules}
+use Rattle.std.proofs.lemmas.List.{places}
+use borrow.Rule.Slice.PartMut.{put_mid}
+use lib.ListN.{replicate, get_or, set, length, length-set}
 use lib.Seq.{ext_get_or, get_or-drop, get_or-set_same, get_or-set_other}
 use Rattle.rules.specs.Limits.{argument_bytes}
 use Rattle.body.specs.declared.Entry.{Entry}
 use Rattle.body.specs.declared.Entry.TheVariants.{Letter, Pair, Within, Wrong}
-use Rattle.body.proofs.Entries.{Fits}
+use Rattle.body.specs.Entry.{entry_at}
+use Rattle.body.proofs.Entries.{Fits, read_fits}
 use Rattle.watcher.specs.inner.Walk.{cells_needed, words_needed, words_opened}
 use Rattle.watcher.specs.inner.Form.{Narrow, Put, words_of, zeros}
 use Rattle.watcher.proofs.Opens.{opened_count, opened_next, opened_entry, opened_zero, opened_beyond, length_opened}
 
 -- j of the n words are put
 pub record Putting (v : ℕ → ℕ) (from n : ℕ) (old new : List ℕ) (j : ℕ) : Type 0 where
-  pub upto : j ≤ n
   pub long : length new ≡ length old
   pub put : Put v from j old new
 
 pub putting_none : (v : ℕ → ℕ) (from n : ℕ) (old : List ℕ) → Putting v from n old old 0
 putting_none v from n old = record {
-  upto = omega arith;
   long = refl;
   put = record { words = λ j h. absurd (omega arith); kept = λ j h. refl };
 }
@@ -31,7 +33,6 @@ putting_none v from n old = record {
 pub putting_more : (v : ℕ → ℕ) (from n : ℕ) (old new : List ℕ) (j a : ℕ) → from + n ≤ length old → j < n → Putting v from n old new j → a ≡ v j
     → Putting v from n old (set new (from + j) a) (j + 1)
 putting_more v from n old new j a room h p e = record {
-  upto = omega arith;
   long = length-set new (from + j) a ∙ p.long;
   put = record {
     words = λ k l. at k l (ℕ_discrete k j);
@@ -47,18 +48,21 @@ putting_more v from n old new j a room h p e = record {
     at k l (yes q) = rw (q, get_or-set_same new (from + j) a 0 (omega (arith, p.long))) e
     at k l (no q) = get_or-set_other new (from + j) (from + k) a 0 (λ z. q (omega arith)) ∙ p.put.words k (omega arith)
 
-pub putting_all : (v : ℕ → ℕ) (from n : ℕ) (old new : List ℕ) (j : ℕ) → n ≤ j → Putting v from n old new j → Put v from n old new
+pub putting_all : (v : ℕ → ℕ) (from n : ℕ) (old new : List ℕ) (j : ℕ) → j ≡ n → Putting v from n old new j → Put v from n old new
 putting_all v from n old new j h p = record {
-  words = λ k l. p.put.words k (omega (arith, p.upto));
-  kept = λ k l. p.put.kept k (⊎_elim (λ m. inl m) (λ m. inr (omega (arith, p.upto))) l);
+  words = λ k l. p.put.words k (omega arith);
+  kept = λ k l. p.put.kept k (⊎_elim (λ m. inl m) (λ m. inr (omega arith)) l);
 }
 
 -- what is read from a body fits a word
-pub fits_narrow : (s : Entry) → Fits (Unit {0}) (256 ^ argument_bytes) s → Narrow s
+fits_narrow : (s : Entry) → Fits (Unit {0}) (256 ^ argument_bytes) s → Narrow s
 fits_narrow (Letter n) h = omega arith
 fits_narrow (Pair op) h = tt
 fits_narrow (Within n) h = omega arith
 fits_narrow Wrong h = tt
+
+pub read_narrow : (b : List ℕ) (i : ℕ) → Narrow (entry_at argument_bytes b i)
+read_narrow b i = fits_narrow (entry_at argument_bytes b i) (read_fits argument_bytes b i)
 
 -- the number of entries, no tick yet, the entries, zeros, and the words beyond as they were: these are an opened state's
 module _ (b old s₁ s₂ : List ℕ) (n cells : ℕ) (count : n ≡ length b / (argument_bytes + 1)) (sum : cells ≡ cells_needed b)
@@ -103,3 +107,10 @@ module _ (b old s₁ s₂ : List ℕ) (n cells : ℕ) (count : n ≡ length b / 
 
   pub opened_same : s₂ ≡ words_opened b old
   opened_same = ext_get_or 0 s₂ (words_opened b old) (long ∙ sym (length_opened b old (omega (arith, needed)))) (λ j h. word j)
+
+-- a part of a slice that is made zero
+pub put_zeros : (a k n : ℕ) (xs ys : List ℕ) → a + n ≤ length xs → k ≡ n → ys ≡ replicate n 0 → Put zeros a n xs (put_mid a k xs ys)
+put_zeros a k n xs ys h e z = record {
+  words = λ j l. search (rules, places);
+  kept = λ j l. ⊎_elim (λ m. search (rules, places)) (λ m. search (rules, places)) l;
+}

@@ -1,4 +1,5 @@
 -- Each claim of specs/Claim, proved. Assumes nothing.
+use Rattle.std.specs.Prelude.{Err, None, Ok, Some}
 use Prim.Native.Nat.{ℕ}
 use mathlib.Core.Path.{◌≡◌, refl, sym, ap, ◌∙◌}
 use mathlib.Core.List.{List, ◌++◌}
@@ -9,14 +10,10 @@ use Rattle.rules.specs.Limits.{argument_bytes}
 use Rattle.rules.specs.Pattern.{Pattern}
 use Rattle.rules.specs.History.{Tick}
 use Rattle.detector.specs.Memory.{fresh}
-use Rattle.body.specs.declared.BodyCheck.TheVariants as Checked
 use Rattle.body.specs.Check.{check_of}
 use Rattle.body.specs.Claim.{BodyOf}
 use Rattle.body.proofs.Bodies.{one_pattern, encode_sound}
 use Rattle.refusal.specs.declared.Refusal.{Refusal}
-use Rattle.watcher.specs.declared.Needed.TheVariants as Needs
-use Rattle.watcher.specs.declared.Opening.TheVariants as Opens
-use Rattle.watcher.specs.declared.Ticking.TheVariants as Ticks
 use Rattle.watcher.specs.State.{state_of, room_of}
 use Rattle.watcher.specs.Answer.{IsOpened, IsTicked, TickRefused, over, broken, below, OpenRefused, unsound, short}
 use Rattle.watcher.specs.Claim.{Agrees, StaysInForm, FormedExactly, ExtentExactly, OneTick, OneOpening, OneRoom, Watched, opened, window, nothing}
@@ -64,24 +61,24 @@ one_answer i j =
     (u.0 ∙ sym v.0, u.1 ∙ sym v.1)
 
 pub one_tick : OneTick
-one_tick s s' s'' t w (Ticks.Window a) (Ticks.Window b) i j = let o = one_answer i j in (cc o.0, o.1)
-one_tick s s' s'' t w (Ticks.Window a) Ticks.Nothing i j = absurd (omega (arith, (one_answer i j).0))
-one_tick s s' s'' t w (Ticks.Window a) (Ticks.Refused r) i j = absurd (never_both i j.0)
-one_tick s s' s'' t w Ticks.Nothing (Ticks.Window b) i j = absurd (omega (arith, (one_answer i j).0))
-one_tick s s' s'' t w Ticks.Nothing Ticks.Nothing i j = (refl, (one_answer i j).1)
-one_tick s s' s'' t w Ticks.Nothing (Ticks.Refused r) i j = absurd (never_both i j.0)
-one_tick s s' s'' t w (Ticks.Refused r) (Ticks.Window b) i j = absurd (never_both j i.0)
-one_tick s s' s'' t w (Ticks.Refused r) Ticks.Nothing i j = absurd (never_both j i.0)
-one_tick s s' s'' t w (Ticks.Refused r) (Ticks.Refused r') i j = (ap Ticks.Refused (one_refusal i.0 j.0), i.1 ∙ sym j.1)
+one_tick s s' s'' t w (Ok (Some a)) (Ok (Some b)) i j = let o = one_answer i j in (cc o.0, o.1)
+one_tick s s' s'' t w (Ok (Some a)) (Ok None) i j = absurd (omega (arith, (one_answer i j).0))
+one_tick s s' s'' t w (Ok (Some a)) (Err r) i j = absurd (never_both i j.0)
+one_tick s s' s'' t w (Ok None) (Ok (Some b)) i j = absurd (omega (arith, (one_answer i j).0))
+one_tick s s' s'' t w (Ok None) (Ok None) i j = (refl, (one_answer i j).1)
+one_tick s s' s'' t w (Ok None) (Err r) i j = absurd (never_both i j.0)
+one_tick s s' s'' t w (Err r) (Ok (Some b)) i j = absurd (never_both j i.0)
+one_tick s s' s'' t w (Err r) (Ok None) i j = absurd (never_both j i.0)
+one_tick s s' s'' t w (Err r) (Err r') i j = (ap Err (one_refusal i.0 j.0), i.1 ∙ sym j.1)
 
 -- two bodies of the same bytes
 same_pattern : {b : List ℕ} {e e' : Pattern} → BodyOf argument_bytes b e → BodyOf argument_bytes b e' → e ≡ e'
 same_pattern {b} {e} {e'} w w' = one_pattern argument_bytes (omega arith) b e e' w w'
 
 -- a body of a pattern is not refused
-body_sound : {b : List ℕ} {e : Pattern} {r : Refusal} → BodyOf argument_bytes b e → check_of argument_bytes b ≡ Checked.Refused r → ⊥
+body_sound : {b : List ℕ} {e : Pattern} {r : Refusal} → BodyOf argument_bytes b e → check_of argument_bytes b ≡ Err r → ⊥
 body_sound {b} {e} {r} w q =
-    let k : check_of argument_bytes b ≡ Checked.Sound = ap (check_of argument_bytes) w.same ∙ encode_sound argument_bytes (omega arith) e w.bodied in
+    let k : check_of argument_bytes b ≡ Ok tt = ap (check_of argument_bytes) w.same ∙ encode_sound argument_bytes (omega arith) e w.bodied in
     impossible cc
 
 -- opening is not both done and refused, and is refused in one way only
@@ -103,14 +100,14 @@ one_opened {b} {old} {new} {new'} o o' =
     ∙ sym o'.words
 
 pub one_opening : OneOpening
-one_opening b old new new' Opens.Opened Opens.Opened o o' = (refl, one_opened o o')
-one_opening b old new new' Opens.Opened (Opens.Refused r) o x = absurd (opened_refused o x.0)
-one_opening b old new new' (Opens.Refused r) Opens.Opened x o = absurd (opened_refused o x.0)
-one_opening b old new new' (Opens.Refused r) (Opens.Refused r') x x' =
-    (ap Opens.Refused (one_opening_refusal x.0 x'.0), x.1 ∙ sym x'.1)
+one_opening b old new new' (Ok _) (Ok _) o o' = (refl, one_opened o o')
+one_opening b old new new' (Ok _) (Err r) o x = absurd (opened_refused o x.0)
+one_opening b old new new' (Err r) (Ok _) x o = absurd (opened_refused o x.0)
+one_opening b old new new' (Err r) (Err r') x x' =
+    (ap Err (one_opening_refusal x.0 x'.0), x.1 ∙ sym x'.1)
 
 pub one_room : OneRoom
-one_room b (Needs.Words n) (Needs.Words n') x x' = ap Needs.Words (x.2 ∙ ap room_of (same_pattern x.1 x'.1) ∙ sym x'.2)
-one_room b (Needs.Words n) (Needs.Refused r) x q = absurd (body_sound x.1 q)
-one_room b (Needs.Refused r) (Needs.Words n) q x = absurd (body_sound x.1 q)
-one_room b (Needs.Refused r) (Needs.Refused r') q q' = cc
+one_room b (Ok n) (Ok n') x x' = ap Ok (x.2 ∙ ap room_of (same_pattern x.1 x'.1) ∙ sym x'.2)
+one_room b (Ok n) (Err r) x q = absurd (body_sound x.1 q)
+one_room b (Err r) (Ok n) q x = absurd (body_sound x.1 q)
+one_room b (Err r) (Err r') q q' = cc

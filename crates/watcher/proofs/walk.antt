@@ -3,5 +3,6 @@ pub mod Places
 pub mod Runs
 pub mod Segments
 pub mod Pairing
+pub mod Merging
 pub mod Walking
 pub mod Stepping

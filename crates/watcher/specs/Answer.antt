@@ -1,27 +1,20 @@
 -- What the watcher's calls promise, by cases of the answer (docs/RULES.md, "Room and state", "Refusals").
 -- Assumes nothing: these are definitions.
-use Rattle.std.specs.Prelude.{◌≡◌, List, ◌++◌, ℕ, suc, ◌≤◌, ◌<◌, length, drop}
+use Rattle.std.specs.Prelude.{◌≡◌, Result, Ok, Err, Option, Some, None, List, ◌++◌, ℕ, suc, ◌≤◌, ◌<◌, length, drop}
 use Rattle.rules.specs.Limits.{argument_bytes, ticks}
 use Rattle.rules.specs.Pattern.{Pattern}
 use Rattle.detector.specs.Memory.{fresh}
 use Rattle.detector.specs.Step.{answer, next}
 use Rattle.refusal.specs.declared.Refusal.{Refusal}
 use Rattle.refusal.specs.declared.Refusal.TheVariants.{Room, State, Range, Late}
-use Rattle.body.specs.declared.BodyCheck.TheVariants as Checked
 use Rattle.body.specs.Check.{check_of}
 use Rattle.body.specs.Claim.{BodyOf}
-use Rattle.watcher.specs.declared.Needed.{Needed}
-use Rattle.watcher.specs.declared.Needed.TheVariants as Needs
-use Rattle.watcher.specs.declared.Opening.{Opening}
-use Rattle.watcher.specs.declared.Opening.TheVariants as Opens
-use Rattle.watcher.specs.declared.Ticking.{Ticking}
-use Rattle.watcher.specs.declared.Ticking.TheVariants as Ticks
 use Rattle.watcher.specs.State.{state_of, room_of, InForm}
 
 -- the room of a body: the formula, or the body's refusal
-abbrev pub RoomAnswers : List ℕ → Needed → Type 0
-RoomAnswers b (Needs.Words n) = (e : Pattern) × BodyOf argument_bytes b e × (n ≡ room_of e)
-RoomAnswers b (Needs.Refused r) = check_of argument_bytes b ≡ Checked.Refused r
+abbrev pub RoomAnswers : List ℕ → Result ℕ Refusal → Type 0
+RoomAnswers b (Ok n) = (e : Pattern) × BodyOf argument_bytes b e × (n ≡ room_of e)
+RoomAnswers b (Err r) = check_of argument_bytes b ≡ Err r
 
 -- opened: the words of a fresh memory stand first, and the words beyond are kept
 pub record IsOpened (b old new : List ℕ) : Type 0 where
@@ -32,13 +25,13 @@ pub record IsOpened (b old new : List ℕ) : Type 0 where
 
 -- opening is refused as the body is; or, where that is sound, for want of room, with the words needed
 pub data OpenRefused (b old : List ℕ) (r : Refusal) : Type 0 where
-  unsound : check_of argument_bytes b ≡ Checked.Refused r → OpenRefused b old r
+  unsound : check_of argument_bytes b ≡ Err r → OpenRefused b old r
   short : (e : Pattern) → BodyOf argument_bytes b e → length old < room_of e → r ≡ Room (room_of e) → OpenRefused b old r
 
 -- the promise of opening
-abbrev pub OpenAnswers : List ℕ → List ℕ → List ℕ → Opening → Type 0
-OpenAnswers b old new Opens.Opened = IsOpened b old new
-OpenAnswers b old new (Opens.Refused r) = OpenRefused b old r × (new ≡ old)
+abbrev pub OpenAnswers : List ℕ → List ℕ → List ℕ → Result (Unit {0}) Refusal → Type 0
+OpenAnswers b old new (Ok _) = IsOpened b old new
+OpenAnswers b old new (Err r) = OpenRefused b old r × (new ≡ old)
 
 -- a state takes a tick: it is in form, and the tick is in range and not below the next allowed
 pub record TickReady (s : List ℕ) (t : ℕ) : Type 0 where
@@ -61,7 +54,7 @@ pub data TickRefused (s : List ℕ) (t : ℕ) (r : Refusal) : Type 0 where
   below : t < ticks → (f : InForm s) → t < f.next → r ≡ Late 0 → TickRefused s t r
 
 -- the promise of a tick at t with the events w
-abbrev pub TickAnswers : List ℕ → List ℕ → ℕ → ℕ → Ticking → Type 0
-TickAnswers s s' t w (Ticks.Window start) = IsTicked s s' t w (suc start)
-TickAnswers s s' t w Ticks.Nothing = IsTicked s s' t w 0
-TickAnswers s s' t w (Ticks.Refused r) = TickRefused s t r × (s' ≡ s)
+abbrev pub TickAnswers : List ℕ → List ℕ → ℕ → ℕ → Result (Option ℕ) Refusal → Type 0
+TickAnswers s s' t w (Ok (Some start)) = IsTicked s s' t w (suc start)
+TickAnswers s s' t w (Ok None) = IsTicked s s' t w 0
+TickAnswers s s' t w (Err r) = TickRefused s t r × (s' ≡ s)

@@ -4,11 +4,13 @@ ghost use Rattle.watcher.specs.State.{header};
 ghost use Rattle.watcher.specs.inner.Walk.{entry_in};
 ghost use Rattle.watcher.specs.inner.Form.{Entered, CellReady, CellEnds, judged_end};
 
+use crate::possible::Possible;
 use crate::{HEADER, NEXT};
 use body::Entry;
 use rules::Op;
 
 // Entry i of a state.
+#[tactic(auto, unfolding(crate::specs::inner::Walk::entry_in))]
 pub(crate) fn entry_in(state: &[u64], i: usize) -> Entry
     requires { i + header < length state.now }
     ensures { result ≡ entry_in state.now i }
@@ -17,60 +19,35 @@ pub(crate) fn entry_in(state: &[u64], i: usize) -> Entry
     body::decode(word % 256, word / 256)
 }
 
-// Where the cells end, 0 if the entries are no sound body, or a cell is not there or not in form.
-// On the stack is p of each tree: a byte holds it, and of at most 63 entries there are at most 63 trees.
-pub(crate) fn judged_end(state: &[u64], n: usize) -> usize
+// Where the cells end, none if the entries are no sound body, or a cell is not there or not in form.
+#[tactic(auto, using(crate::proofs::form::Judging::judging_start, crate::proofs::form::Judging::judging_one, crate::proofs::form::Judging::judging_other, crate::proofs::form::Judging::judging_broken, crate::proofs::form::Judging::judging_wrong, crate::proofs::form::Judging::judging_no_one, crate::proofs::form::Judging::judging_no_two))]
+pub(crate) fn judged_end(state: &[u64], n: usize) -> Option<usize>
     requires { Entered state.now n }
     ensures { result ≡ judged_end state.now }
 {
-    let mut possible = [0u8; 64];
-    let mut d: usize = 0;
+    let mut possible = Possible::new();
     let mut at = HEADER + n;
-    let mut i: usize = 0;
-    while i < n {
-        let entry = entry_in(state, i);
-        i += 1;
-        match entry {
-            Entry::Letter(_) => {
-                possible[d] = 0;
-                d += 1;
+    for i in 0..n {
+        match entry_in(state, i) {
+            Entry::Letter(_) => possible.push(0),
+            Entry::Pair(op) if 2 <= possible.len() => {
+                at = cell_end(op, state, at, possible.merge(op))?;
             }
-            Entry::Pair(op) => {
-                if d < 2 {
-                    return 0;
-                }
-                let y = possible[d - 1];
-                let x = possible[d - 2];
-                let end = cell_end(op, state, at, y);
-                if end == 0 {
-                    return 0;
-                }
-                possible[d - 2] = cell::possible_starts(op, x, y) as u8;
-                d -= 1;
-                at = end;
-            }
-            Entry::Within(_) => {
-                if d < 1 {
-                    return 0;
-                }
-            }
-            Entry::Wrong => return 0,
+            Entry::Within(_) if 1 <= possible.len() => {}
+            _ => return None,
         }
     }
-    if d == 1 { at } else { 0 }
+    if possible.len() == 1 { Some(at) } else { None }
 }
 
-// The place after the cell of an operator, whose right operand has y possible starts; 0 if the cell is not there or not in form.
-fn cell_end(op: Op, state: &[u64], at: usize, y: u8) -> usize
+// The place after the cell of an operator, whose right operand has y possible starts; none if the cell is not there or not in form.
+fn cell_end(op: Op, state: &[u64], at: usize, y: u8) -> Option<usize>
     requires { CellReady state.now at }
     ensures { CellEnds state.now op at y result }
 {
     let end = at + cell::size(op, y);
-    if state.len() < end {
-        return 0;
+    if state.len() < end || !cell::in_form(op, &state[at..end], state[NEXT]) {
+        return None;
     }
-    if cell::in_form(op, &state[at..end], state[NEXT]) {
-        return end;
-    }
-    0
+    Some(end)
 }

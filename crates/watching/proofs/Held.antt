@@ -11,12 +11,12 @@ use Rattle.rules.specs.Limits.{most_text}
 use Rattle.text.specs.Answer.RefusedText.{long, syntax, many, room}
 use Rattle.line.specs.Answer.RefusedLine.{long as long_line, malformed, range}
 use Rattle.watching.specs.declared.Run.{Run}
-use Rattle.watching.specs.declared.LineAnswer.{LineAnswer}
 use Rattle.watching.specs.Answer.{FirstLine, FurtherLine, LineTaken}
 use Rattle.watching.specs.Answer.FirstLine.{unread as no_text, unopened, opened}
 use Rattle.watching.specs.Answer.FurtherLine.{unread as no_tick, unticked, window, nothing}
 use Rattle.watching.specs.Answer.LineTaken.{first, further, after}
 use Rattle.watching.specs.Chunk.{most_held, hold}
+use Rattle.watching.specs.Answer.{LineAnswer}
 
 module _ (h l : List ℕ) (over : most_text < length h) (over' : most_text < length l) where
   -- as line 1 both are refused for their length

@@ -8,7 +8,6 @@ use borrow.Author.Tests.{ne_eqb}
 use lib.ListN.{length, take, length-append, length-take}
 use Rattle.watching.specs.declared.Run.{Run}
 use Rattle.watching.specs.Runs.{fresh}
-use Rattle.watching.specs.declared.LineAnswer.{LineAnswer}
 use Rattle.watching.specs.Answer.{Acted, LineTaken}
 use Rattle.watching.specs.Answer.Acted.{silent, added, full as over, refused}
 use Rattle.watching.specs.Answer.LineTaken.{first, further, after}
@@ -17,6 +16,7 @@ use Rattle.watching.specs.Whole.Takes.{more as next_line}
 use Rattle.watching.specs.Chunk.{most_held, hold, last_lines, TakesBytes, Ends}
 use Rattle.watching.specs.Chunk.TakesBytes.{all, full, byte, line}
 use Rattle.watching.proofs.Held.{held_taken, hold_held}
+use Rattle.watching.specs.Answer.{LineAnswer}
 
 -- bytes taken in pieces, where what a piece leaves comes first in the next
 pub data Watches : Run → List ℕ → List ℕ → List ℕ → Run → List ℕ → List ℕ → List ℕ → Type 0 where

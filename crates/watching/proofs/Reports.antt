@@ -1,4 +1,5 @@
 -- Answers reported many at once: a window is added to a tally that is far from full, and answers are reported one after the other. Assumes nothing.
+use Rattle.std.specs.Prelude.{Ok, Some}
 use Prim.Native.Nat.{ℕ, suc, ◌+◌, ◌-◌, ◌*◌, ◌^◌, ◌<◌, ◌≤◌}
 use mathlib.Core.Path.{◌≡◌, refl, subst}
 use mathlib.Core.List.{List, [], ◌∷◌, ◌++◌, append_assoc, append-nil}
@@ -11,13 +12,11 @@ use borrow.Rule.Slice.PartMut.{mid_of, put_mid}
 use Rattle.rules.proofs.Impossible.{impossible}
 use Rattle.rules.specs.Limits.{ticks}
 use Rattle.tally.specs.declared.Tally.{Tally}
-use Rattle.tally.specs.declared.Adding.TheVariants.{Added}
 use Rattle.tally.specs.Tallied.{added_to, more as counted}
 use Rattle.line.specs.Lines.{most_written}
 use Rattle.line.proofs.Theorem.{at_most_written}
 use Rattle.watching.specs.declared.Run.{Run}
 use Rattle.watching.specs.declared.Taken.{Taken}
-use Rattle.watching.specs.declared.LineAnswer.TheVariants.{Window}
 use Rattle.watching.specs.Runs.{next_run}
 use Rattle.watching.specs.Answer.{Acted, silent, added, full, IsActed}
 use Rattle.watching.specs.inner.Progress.{WritesOn}
@@ -30,7 +29,7 @@ use Rattle.watching.proofs.Progress.{writes_on, writes_whole, writes_length, wri
 
 -- a window is added where the tally has room for it
 pub added_fits : (tally : Tally) (start t : ℕ) → start ≤ t → t < ticks → tally.windows + 1 < 2 ^ 64 → tally.ticks + (t - start + 1) < 2 ^ 64
-    → added_to tally start t ≡ Added (counted tally start t)
+    → added_to tally start t ≡ Ok (counted tally start t)
 unfolding added_to
 added_fits tally start t h r w k =
     simp (le-ltb t start h, lt-leb ticks t r, lt-leb (2 ^ 64) (tally.windows + 1) w, lt-leb (2 ^ 64) (tally.ticks + (t - start + 1)) k)
@@ -43,12 +42,12 @@ record Grows (run run' : Run) (bytes : List ℕ) : Type 0 where
   ticks : run'.tally.ticks ≤ run.tally.ticks + 2 ^ 32
 
 module _ (run : Run) (start t : ℕ) (h : start ≤ t) (r : t < ticks) (f : Holds run 1) where
-  fits : added_to run.tally start t ≡ Added (counted run.tally start t)
+  fits : added_to run.tally start t ≡ Ok (counted run.tally start t)
   fits = added_fits run.tally start t h r f.windows (omega (arith, f.ticks))
 
-  window_grows : {run' : Run} {bytes : List ℕ} → Acted run (Window start t) run' bytes → Grows run run' bytes
+  window_grows : {run' : Run} {bytes : List ℕ} → Acted run (Ok (Some (start, t))) run' bytes → Grows run run' bytes
   window_grows (added {tally = tally} e) =
-      let counts : added_to run.tally start t ≡ Added (counted run.tally start t) = fits in
+      let counts : added_to run.tally start t ≡ Ok (counted run.tally start t) = fits in
       let same : tally ≡ counted run.tally start t = cc in
       record {
         phase = refl;
@@ -57,7 +56,7 @@ module _ (run : Run) (start t : ℕ) (h : start ≤ t) (r : t < ticks) (f : Hold
         ticks = rw same (omega arith);
       }
   window_grows (full {r = r} e) =
-      let counts : added_to run.tally start t ≡ Added (counted run.tally start t) = fits in
+      let counts : added_to run.tally start t ≡ Ok (counted run.tally start t) = fits in
       impossible cc
 
 pub reported_nothing : (run run' : Run) (t a : ℕ) (d : List ℕ) → a ≡ 0 → run' ≡ next_run run run.tally
@@ -73,7 +72,7 @@ reported_nothing run run' t a d z e = record {
 }
 
 pub reported_window : {run : Run} {t a : ℕ} {d d' : List ℕ} {taken : Taken} → ReportReady run t a d → (a ≡ 0 → ⊥)
-    → IsActed run (Window (a - 1) t) d d' taken → IsReported run t a d d' taken
+    → IsActed run (Ok (Some ((a - 1), t))) d d' taken → IsReported run t a d d' taken
 reported_window {run} {t} {a} {d} {d'} {taken} r n i =
     let same : suc (a - 1) ≡ a = omega arith in
     let g = window_grows run (a - 1) t (omega (arith, r.fair.within)) r.fair.range r.holds i.acted in

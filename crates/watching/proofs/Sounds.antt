@@ -1,5 +1,6 @@
 -- A sound input is not refused: its text is read and the state opened, each tick is allowed, and the tally has room for all windows of one run.
 -- Assumes nothing.
+use Rattle.std.specs.Prelude.{Ok, Err}
 use Prim.Native.Nat.{ℕ, suc, ◌-◌, ◌*◌, ◌^◌, ◌≤◌, ◌<◌}
 use mathlib.Core.Path.{◌≡◌, refl, ap}
 use mathlib.Core.Logic.{inl, inr}
@@ -15,22 +16,16 @@ use Rattle.detector.proofs.History.{next_tick_snoc}
 use Rattle.refusal.specs.declared.Refusal.{Refusal}
 use Rattle.body.specs.Claim.{BodyOf}
 use Rattle.body.proofs.Bodies.{length_encode}
-use Rattle.text.specs.declared.Reading.TheVariants as Reads
 use Rattle.text.proofs.Theorem.{one_pattern, accepted_exactly}
-use Rattle.watcher.specs.declared.Opening.TheVariants as Opens
-use Rattle.watcher.specs.declared.Ticking.TheVariants as Ticks
 use Rattle.watcher.specs.State.{state_of, room_of}
 use Rattle.watcher.specs.Claim.{Watched, opened as watched, window as windowed, nothing as unmoved}
 use Rattle.watcher.proofs.Theorem.{agrees, one_opening}
 use Rattle.tally.specs.declared.Tally.{Tally}
-use Rattle.tally.specs.declared.Adding.TheVariants as Adds
 use Rattle.tally.specs.Tallied.{added_to, more as counted}
-use Rattle.line.specs.declared.LineRead.TheVariants as Lines
 use Rattle.line.specs.Answer.{IsTick}
 use Rattle.line.proofs.Theorem.{one_tick, one_reading}
 use Rattle.watching.specs.declared.Run.{Run}
 use Rattle.watching.specs.Runs.{next_run}
-use Rattle.watching.specs.declared.LineAnswer.TheVariants.{Refused}
 use Rattle.watching.specs.Answer.{no_body, FirstLine, FurtherLine}
 use Rattle.watching.specs.Answer.FirstLine.{unread as no_text, unopened, opened}
 use Rattle.watching.specs.Answer.FurtherLine.{unread as no_tick, unticked, window, nothing}
@@ -48,17 +43,17 @@ use Rattle.watching.proofs.Whole.{read_body, output_agrees}
 -- ---- line 1
 
 -- the text of a pattern within the limits opens a state that has room for it
-not_unopened : {p s s' : List ℕ} {r : Refusal} {ls : List (List ℕ)} (x : Sound p ls) → room_of x.pattern ≤ length s → FirstLine p s s' (Refused r) → ⊥
+not_unopened : {p s s' : List ℕ} {r : Refusal} {ls : List (List ℕ)} (x : Sound p ls) → room_of x.pattern ≤ length s → FirstLine p s s' (Err r) → ⊥
 not_unopened {p} {s} {s'} {r} x h (no_text {body} a k) =
     let room = length_encode argument_bytes x.pattern in
-    let e = (accepted_exactly p no_body body (Reads.Refused r) a).1
+    let e = (accepted_exactly p no_body body (Err r) a).1
     (x.pattern, record { text = x.text; short = x.short; few = x.few; room = omega (arith, x.few) }) in
     let q = e.1 in
     impossible cc
 not_unopened {p} {s} {s'} {r} x h (unopened {body} {bytes} a o) =
     let e = a.some.tree in
     let same = ap room_of (one_pattern p e x.pattern a.some.text x.text) in
-    let q = (one_opening (take bytes body) s (state_of e 0 (blank e) ++ drop (room_of e) s) s' Opens.Opened (Opens.Refused r)
+    let q = (one_opening (take bytes body) s (state_of e 0 (blank e) ++ drop (room_of e) s) s' (Ok tt) (Err r)
     (record { pattern = e; body = read_body a; room = omega arith; words = refl }) o).0 in
     impossible cc
 
@@ -71,10 +66,10 @@ record Few (run : Run) (τ : ℕ) : Type 0 where
 
 module _ (run : Run) (τ start t : ℕ) (f : Few run τ) (late : τ ≤ t) (range : t < ticks) where
   -- so there is room for a window that ends at a tick in range
-  fits : start ≤ t → added_to run.tally start t ≡ Adds.Added (counted run.tally start t)
+  fits : start ≤ t → added_to run.tally start t ≡ Ok (counted run.tally start t)
   fits h = added_fits run.tally start t h range (omega (arith, f.windows)) (omega (arith, f.ticks))
 
-  few_more : (tally : Tally) → start ≤ t → added_to run.tally start t ≡ Adds.Added tally → Few (next_run run tally) (suc t)
+  few_more : (tally : Tally) → start ≤ t → added_to run.tally start t ≡ Ok tally → Few (next_run run tally) (suc t)
   few_more tally h e =
       let k = fits h in
       let same : tally ≡ counted run.tally start t = cc in
@@ -83,7 +78,7 @@ module _ (run : Run) (τ start t : ℕ) (f : Few run τ) (late : τ ≤ t) (rang
   few_still : Few (next_run run run.tally) (suc t)
   few_still = record { windows = omega (arith, f.windows); ticks = omega (arith, f.ticks) }
 
-  never_full : {r : Refusal} → start ≤ t → added_to run.tally start t ≡ Adds.Refused r → ⊥
+  never_full : {r : Refusal} → start ≤ t → added_to run.tally start t ≡ Err r → ⊥
   never_full h e =
       let k = fits h in
       impossible cc
@@ -93,13 +88,13 @@ module _ (run : Run) (τ start t : ℕ) (f : Few run τ) (late : τ ≤ t) (rang
 module _ (b : List ℕ) (e : Pattern) (body : BodyOf argument_bytes b e) where
   -- a tick that is allowed is not refused
   not_refused : {h : List Tick} {s s' l : List ℕ} {t w : ℕ} {r : Refusal} → Watched b h s → IsTick l t w → next_tick 0 h ≤ t
-      → FurtherLine l s s' (Refused r) → ⊥
+      → FurtherLine l s s' (Err r) → ⊥
   not_refused {l = l} {t = t} {w = w} {r = r} x i late (no_tick y k) =
-      let q = one_reading l (Lines.Tick t w) (Lines.Refused r) i y in
+      let q = one_reading l (Ok (record { t = t; events = w })) (Err r) i y in
       impossible cc
   not_refused {h} {s} {s'} {l} {t} {w} {r} x i late (unticked {t = t'} {w = w'} y k) =
       let q = one_tick l t w t' w' i.line y.line in
-      (agrees b e body h s s' x t' w' (Ticks.Refused r) (omega (arith, q.0)) y.range k).1
+      (agrees b e body h s s' x t' w' (Err r) (omega (arith, q.0)) y.range k).1
 
   sound_runs : {h k : List Tick} {run run' : Run} {s s' bytes : List ℕ} {ls : List (List ℕ)} → Watched b h s → Few run (next_tick 0 h) → run.phase ≡ 1
       → AreTicks ls k → Rising (next_tick 0 h) k → Takes run s ls run' s' bytes → run'.phase ≡ 1

@@ -1,14 +1,15 @@
 -- Bytes taken one after the other: where a line ends, bytes that are held, a line that is taken, and how many bytes are used. Assumes nothing.
 use Prim.Native.Nat.{ℕ, zero, suc, ◌+◌, ◌-◌, ◌<◌, ◌≤◌}
+use Rattle.std.specs.Prelude.{◌==◌, Some, None, nat_lt, unwrap_or}
+use Rattle.std.specs.List.{position_or_len, position}
 use mathlib.Core.Path.{◌≡◌, refl, ap, ◌∙◌}
-use mathlib.Core.Bool.{Bool, true, false, cond}
+use mathlib.Core.Bool.{Bool, true, false, cond, not}
 use mathlib.Core.List.{List, [], ◌∷◌, ◌++◌, append_assoc, append-nil}
 use native.Mathlib.Omega.{arith}
 use lib.Dec.{eqb}
-use lib.ListN.{length, get_or, take, drop, length-take, drop_of_length-le}
+use lib.ListN.{length, take, drop, length-take, length-drop}
 use lib.Seq.{take_all}
-use borrow.Author.Tests.{eq-eqb, ne_eqb, eqb-true, eqb-false}
-use Rattle.rules.proofs.Lists.{drop_at}
+use borrow.Author.Tests.{eqb-true, eqb-false}
 use Rattle.line.specs.Lines.{most_written}
 use Rattle.watching.specs.declared.Run.{Run}
 use Rattle.watching.specs.Answer.{LineTaken}
@@ -18,18 +19,37 @@ use Rattle.watching.specs.inner.Progress.{line_length, Unended}
 
 -- ---- where a line ends
 
-pub ends_all : (input : List ℕ) (at : ℕ) → length input ≤ at → line_length (drop at input) ≡ 0
+found_or_not : (t : Bool) (a b : ℕ) → a ≡ b → cond (not t) (1 + a) 0 ≡ cond t 0 (suc b)
+found_or_not true a b h = refl
+found_or_not false a b h = omega (arith, h)
+
+-- the place of the first line feed, or the length where there is none
+pub feed_place : (input : List ℕ) → position_or_len (λ c. c == 10) input ≡ line_length input
 unfolding line_length
-ends_all input at h = rw (drop_of_length-le input h)
+feed_place [] = refl
+feed_place (c ∷ input) = found_or_not (c == 10) _ _ (feed_place input)
 
-module _ (input : List ℕ) (at : ℕ) (h : at < length input) where
-  pub ends_here : get_or input at 0 ≡ 10 → line_length (drop at input) ≡ 0
-  unfolding line_length
-  ends_here e = rw (drop_at input at h) (simp (eq-eqb (get_or input at 0) 10 e))
+within : (t : Bool) {n m : ℕ} → n ≤ m → cond t 0 (suc n) ≤ suc m
+within true h = omega arith
+within false h = omega arith
 
-  pub ends_later : (get_or input at 0 ≡ 10 → ⊥) → line_length (drop at input) ≡ suc (line_length (drop (at + 1) input))
-  unfolding line_length
-  ends_later n = rw (drop_at input at h) (simp (ne_eqb (get_or input at 0) 10 n))
+-- no line is longer than the input
+line_le : (input : List ℕ) → line_length input ≤ length input
+unfolding line_length
+line_le [] = omega arith
+line_le (c ∷ input) = within (eqb c 10) (line_le input)
+
+known_place : (t : Bool) (n m : ℕ) → nat_lt n m ≡ t → n ≤ m → unwrap_or (cond t (Some n) None) m ≡ n
+known_place true n m e h = refl
+known_place false n m e h = grind (arith, e)
+
+pub feed_found : (input : List ℕ) → unwrap_or (position (λ c. c == 10) input) (length input) ≡ line_length input
+feed_found input =
+    let place = feed_place input in
+    known_place _ (position_or_len (λ c. c == 10) input) (length input) refl (omega (arith, place, line_le input)) ∙ place
+
+pub line_inside : (input : List ℕ) (from : ℕ) → from ≤ length input → from + line_length (drop from input) ≤ length input
+line_inside input from h = omega (arith, line_le (drop from input), length-drop from input)
 
 -- ---- bytes held
 

@@ -1,62 +1,56 @@
 -- The promises leave no choice: each follows from the answers of reading, opening, ticking and adding, which are unique. Assumes nothing.
+use Rattle.std.specs.Prelude.{Ok, Err, Some, None, Result, Option}
 use Prim.Native.Nat.{ℕ}
 use mathlib.Core.Path.{◌≡◌, refl, sym, ap, ◌∙◌}
 use mathlib.Core.List.{List, ◌++◌}
 use lib.ListN.{take, drop}
 use native.Mathlib.Omega.{arith}
 use Rattle.rules.proofs.Impossible.{impossible}
-use Rattle.text.specs.declared.Reading.{Reading}
-use Rattle.text.specs.declared.Reading.TheVariants as Reads
 use Rattle.text.specs.Answer.{ReadingOf}
 use Rattle.text.proofs.Theorem as Texts
-use Rattle.watcher.specs.declared.Opening.{Opening}
-use Rattle.watcher.specs.declared.Opening.TheVariants as Opens
-use Rattle.watcher.specs.declared.Ticking.{Ticking}
-use Rattle.watcher.specs.declared.Ticking.TheVariants as Ticks
 use Rattle.watcher.specs.Answer.{OpenAnswers, TickAnswers}
 use Rattle.watcher.proofs.Theorem.{one_opening, one_tick}
-use Rattle.line.specs.declared.LineRead.{LineRead}
-use Rattle.line.specs.declared.LineRead.TheVariants as Lines
 use Rattle.line.specs.Answer.{LineReadOf, IsWritten}
 use Rattle.line.proofs.Theorem as Lined
 use Rattle.watching.specs.declared.Run.{Run}
-use Rattle.watching.specs.declared.LineAnswer.{LineAnswer}
-use Rattle.watching.specs.declared.LineAnswer.TheVariants.{Nothing, Window, Refused}
 use Rattle.watching.specs.Runs.{next_run}
 use Rattle.watching.specs.Answer.{no_body, FirstLine, FurtherLine, Acted, LineTaken, refusing}
 use Rattle.watching.specs.Answer.FirstLine.{unread as no_text, unopened, opened}
 use Rattle.watching.specs.Answer.FurtherLine.{unread as no_tick, unticked, window, nothing}
 use Rattle.watching.specs.Answer.Acted.{silent, added, full, refused}
 use Rattle.watching.specs.Answer.LineTaken.{first, further, after}
+use Rattle.line.specs.declared.Tick.{Tick}
+use Rattle.refusal.specs.declared.Refusal.{Refusal}
+use Rattle.watching.specs.Answer.{LineAnswer}
 
 -- ---- line 1
 
-opening_of : Opening → LineAnswer
-opening_of Opens.Opened = Nothing
-opening_of (Opens.Refused r) = Refused r
+opening_of : Result (Unit {0}) Refusal → LineAnswer
+opening_of (Ok _) = Ok None
+opening_of (Err r) = Err r
 
 -- what follows on the text's reading
-abbrev opens_by : Reading → List ℕ → List ℕ → List ℕ → LineAnswer → Type 0
-opens_by (Reads.Read n) body s s' a = (o : Opening) × OpenAnswers (take n body) s s' o × (a ≡ opening_of o)
-opens_by (Reads.Refused r) body s s' a = (a ≡ Refused r) × (s' ≡ s)
+abbrev opens_by : Result ℕ Refusal → List ℕ → List ℕ → List ℕ → LineAnswer → Type 0
+opens_by (Ok n) body s s' a = (o : Result (Unit {0}) Refusal) × OpenAnswers (take n body) s s' o × (a ≡ opening_of o)
+opens_by (Err r) body s s' a = (a ≡ Err r) × (s' ≡ s)
 
 record By-text (l s s' : List ℕ) (a : LineAnswer) : Type 0 where
-  reading : Reading
+  reading : Result ℕ Refusal
   body : List ℕ
   read : ReadingOf l no_body body reading
   opens : opens_by reading body s s' a
 
 by_text : {l s s' : List ℕ} {a : LineAnswer} → FirstLine l s s' a → By-text l s s' a
 unfolding opening_of
-by_text (no_text {body} {r} x e) = record { reading = Reads.Refused r; body = body; read = x; opens = (refl, e) }
-by_text (unopened {body} {bytes} {r} x y) = record { reading = Reads.Read bytes; body = body; read = x; opens = (Opens.Refused r, y, refl) }
-by_text (opened {body} {bytes} x y) = record { reading = Reads.Read bytes; body = body; read = x; opens = (Opens.Opened, y, refl) }
+by_text (no_text {body} {r} x e) = record { reading = Err r; body = body; read = x; opens = (refl, e) }
+by_text (unopened {body} {bytes} {r} x y) = record { reading = Ok bytes; body = body; read = x; opens = (Err r, y, refl) }
+by_text (opened {body} {bytes} x y) = record { reading = Ok bytes; body = body; read = x; opens = ((Ok tt), y, refl) }
 
-one_opens : (r : Reading) (body s s₁ s₂ : List ℕ) (a₁ a₂ : LineAnswer) → opens_by r body s s₁ a₁ → opens_by r body s s₂ a₂ → (a₁ ≡ a₂) × (s₁ ≡ s₂)
-one_opens (Reads.Read n) body s s₁ s₂ a₁ a₂ (o, x, e) (o', x', e') =
+one_opens : (r : Result ℕ Refusal) (body s s₁ s₂ : List ℕ) (a₁ a₂ : LineAnswer) → opens_by r body s s₁ a₁ → opens_by r body s s₂ a₂ → (a₁ ≡ a₂) × (s₁ ≡ s₂)
+one_opens (Ok n) body s s₁ s₂ a₁ a₂ (o, x, e) (o', x', e') =
     let u = one_opening (take n body) s s₁ s₂ o o' x x' in
     (e ∙ ap opening_of u.0 ∙ sym e', u.1)
-one_opens (Reads.Refused r) body s s₁ s₂ a₁ a₂ (e, k) (e', k') = (e ∙ sym e', k ∙ sym k')
+one_opens (Err r) body s s₁ s₂ a₁ a₂ (e, k) (e', k') = (e ∙ sym e', k ∙ sym k')
 
 one_first : {l s s₁ s₂ : List ℕ} {a₁ a₂ : LineAnswer} → FirstLine l s s₁ a₁ → FirstLine l s s₂ a₂ → (a₁ ≡ a₂) × (s₁ ≡ s₂)
 one_first {l} {s} {s₁} {s₂} {a₁} {a₂} x y =
@@ -67,33 +61,33 @@ one_first {l} {s} {s₁} {s₂} {a₁} {a₂} x y =
 
 -- ---- a further line
 
-ticking_of : ℕ → Ticking → LineAnswer
-ticking_of t (Ticks.Window start) = Window start t
-ticking_of t Ticks.Nothing = Nothing
-ticking_of t (Ticks.Refused r) = Refused r
+ticking_of : ℕ → Result (Option ℕ) Refusal → LineAnswer
+ticking_of t (Ok (Some start)) = Ok (Some (start, t))
+ticking_of t (Ok None) = Ok None
+ticking_of t (Err r) = Err r
 
 -- what follows on the line's reading
-abbrev ticks_by : LineRead → List ℕ → List ℕ → LineAnswer → Type 0
-ticks_by (Lines.Tick t w) s s' a = (o : Ticking) × TickAnswers s s' t w o × (a ≡ ticking_of t o)
-ticks_by (Lines.Refused r) s s' a = (a ≡ Refused r) × (s' ≡ s)
+abbrev ticks_by : Result Tick Refusal → List ℕ → List ℕ → LineAnswer → Type 0
+ticks_by (Ok k) s s' a = (o : Result (Option ℕ) Refusal) × TickAnswers s s' k.t k.events o × (a ≡ ticking_of k.t o)
+ticks_by (Err r) s s' a = (a ≡ Err r) × (s' ≡ s)
 
 record By-line (l s s' : List ℕ) (a : LineAnswer) : Type 0 where
-  reading : LineRead
+  reading : Result Tick Refusal
   read : LineReadOf l reading
   ticks : ticks_by reading s s' a
 
 by_line : {l s s' : List ℕ} {a : LineAnswer} → FurtherLine l s s' a → By-line l s s' a
 unfolding ticking_of
-by_line (no_tick {r} x e) = record { reading = Lines.Refused r; read = x; ticks = (refl, e) }
-by_line (unticked {t} {w} {r} x y) = record { reading = Lines.Tick t w; read = x; ticks = (Ticks.Refused r, y, refl) }
-by_line (window {t} {w} {start} x y) = record { reading = Lines.Tick t w; read = x; ticks = (Ticks.Window start, y, refl) }
-by_line (nothing {t} {w} x y) = record { reading = Lines.Tick t w; read = x; ticks = (Ticks.Nothing, y, refl) }
+by_line (no_tick {r} x e) = record { reading = Err r; read = x; ticks = (refl, e) }
+by_line (unticked {t} {w} {r} x y) = record { reading = Ok (record { t = t; events = w }); read = x; ticks = (Err r, y, refl) }
+by_line (window {t} {w} {start} x y) = record { reading = Ok (record { t = t; events = w }); read = x; ticks = (Ok (Some start), y, refl) }
+by_line (nothing {t} {w} x y) = record { reading = Ok (record { t = t; events = w }); read = x; ticks = ((Ok None), y, refl) }
 
-one_ticks : (r : LineRead) (s s₁ s₂ : List ℕ) (a₁ a₂ : LineAnswer) → ticks_by r s s₁ a₁ → ticks_by r s s₂ a₂ → (a₁ ≡ a₂) × (s₁ ≡ s₂)
-one_ticks (Lines.Tick t w) s s₁ s₂ a₁ a₂ (o, x, e) (o', x', e') =
-    let u = one_tick s s₁ s₂ t w o o' x x' in
-    (e ∙ ap (ticking_of t) u.0 ∙ sym e', u.1)
-one_ticks (Lines.Refused r) s s₁ s₂ a₁ a₂ (e, k) (e', k') = (e ∙ sym e', k ∙ sym k')
+one_ticks : (r : Result Tick Refusal) (s s₁ s₂ : List ℕ) (a₁ a₂ : LineAnswer) → ticks_by r s s₁ a₁ → ticks_by r s s₂ a₂ → (a₁ ≡ a₂) × (s₁ ≡ s₂)
+one_ticks (Ok k) s s₁ s₂ a₁ a₂ (o, x, e) (o', x', e') =
+    let u = one_tick s s₁ s₂ k.t k.events o o' x x' in
+    (e ∙ ap (ticking_of k.t) u.0 ∙ sym e', u.1)
+one_ticks (Err r) s s₁ s₂ a₁ a₂ (e, k) (e', k') = (e ∙ sym e', k ∙ sym k')
 
 one_further : {l s s₁ s₂ : List ℕ} {a₁ a₂ : LineAnswer} → FurtherLine l s s₁ a₁ → FurtherLine l s s₂ a₂ → (a₁ ≡ a₂) × (s₁ ≡ s₂)
 one_further {l} {s} {s₁} {s₂} {a₁} {a₂} x y =

@@ -1,4 +1,5 @@
 -- The promises of taking a chunk and of finishing leave no choice either: bytes are taken in one way, since a line is. Assumes nothing.
+use Rattle.std.specs.Prelude.{Ok, Err}
 use Prim.Native.Nat.{ℕ}
 use mathlib.Core.Path.{◌≡◌, refl, sym, ap, ◌∙◌}
 use mathlib.Core.List.{List, ◌++◌}
@@ -6,8 +7,6 @@ use native.Mathlib.Omega.{arith}
 use lib.ListN.{length, drop}
 use Rattle.watching.specs.declared.Run.{Run}
 use Rattle.watching.specs.declared.Chunked.{Chunked}
-use Rattle.watching.specs.declared.Chunking.TheVariants as Chunks
-use Rattle.watching.specs.declared.Finishing.TheVariants as Ending
 use Rattle.watching.specs.Whole.{Takes}
 use Rattle.watching.specs.Whole.Takes.{none, more}
 use Rattle.watching.specs.Chunk.{TakesBytes, IsChunked}
@@ -63,21 +62,21 @@ one_chunked run held chunk p p₁ p₂ s s₁ s₂ d d₁ d₂ r₁ r₂ x y =
     (same u.run held used w.0, x.holds ∙ ap (λ (k : List ℕ). k ++ drop (length k) p) u.held ∙ sym y.holds, u.state, w.1)
 
 pub one_chunk : OneChunk
-one_chunk run held chunk p p₁ p₂ s s₁ s₂ d d₁ d₂ (Chunks.Taken r₁) (Chunks.Taken r₂) (h, x) (h', y) =
+one_chunk run held chunk p p₁ p₂ s s₁ s₂ d d₁ d₂ (Ok r₁) (Ok r₂) (h, x) (h', y) =
     let u = one_chunked run held chunk p p₁ p₂ s s₁ s₂ d d₁ d₂ r₁ r₂ x y in
-    (ap Chunks.Taken u.0, u.1, u.2, u.3)
-one_chunk run held chunk p p₁ p₂ s s₁ s₂ d d₁ d₂ (Chunks.Taken r₁) (Chunks.Refused r₂) x y = absurd (omega (arith, x.0, y.0))
-one_chunk run held chunk p p₁ p₂ s s₁ s₂ d d₁ d₂ (Chunks.Refused r₁) (Chunks.Taken r₂) x y = absurd (omega (arith, x.0, y.0))
-one_chunk run held chunk p p₁ p₂ s s₁ s₂ d d₁ d₂ (Chunks.Refused r₁) (Chunks.Refused r₂) (h, a, b, c, e) (h', a', b', c', e') =
-    (ap Chunks.Refused (a ∙ sym a'), b ∙ sym b', c ∙ sym c', e ∙ sym e')
+    (ap Ok u.0, u.1, u.2, u.3)
+one_chunk run held chunk p p₁ p₂ s s₁ s₂ d d₁ d₂ (Ok r₁) (Err r₂) x y = absurd (omega (arith, x.0, y.0))
+one_chunk run held chunk p p₁ p₂ s s₁ s₂ d d₁ d₂ (Err r₁) (Ok r₂) x y = absurd (omega (arith, x.0, y.0))
+one_chunk run held chunk p p₁ p₂ s s₁ s₂ d d₁ d₂ (Err r₁) (Err r₂) (h, a, b, c, e) (h', a', b', c', e') =
+    (ap Err (a ∙ sym a'), b ∙ sym b', c ∙ sym c', e ∙ sym e')
 
 pub one_end : OneEnd
-one_end run held p s s₁ s₂ d d₁ d₂ (Ending.Finished m) (Ending.Finished n) (h, (b, x, w)) (h', (b', y, w')) =
+one_end run held p s s₁ s₂ d d₁ d₂ (Ok m) (Ok n) (h, (b, x, w)) (h', (b', y, w')) =
     let u = one_takes x.takes y.takes in
     let e : b ≡ b' = x.whole ∙ rw (u.0, u.2) (sym y.whole) in
     let v = one_written b' d d₁ d₂ m n (rw e at w) w' in
-    (ap Ending.Finished v.0, u.1, v.1)
-one_end run held p s s₁ s₂ d d₁ d₂ (Ending.Finished m) (Ending.Refused r) x y = absurd (omega (arith, x.0, y.0))
-one_end run held p s s₁ s₂ d d₁ d₂ (Ending.Refused r) (Ending.Finished n) x y = absurd (omega (arith, x.0, y.0))
-one_end run held p s s₁ s₂ d d₁ d₂ (Ending.Refused r₁) (Ending.Refused r₂) (h, a, b, c) (h', a', b', c') =
-    (ap Ending.Refused (a ∙ sym a'), b ∙ sym b', c ∙ sym c')
+    (ap Ok v.0, u.1, v.1)
+one_end run held p s s₁ s₂ d d₁ d₂ (Ok m) (Err r) x y = absurd (omega (arith, x.0, y.0))
+one_end run held p s s₁ s₂ d d₁ d₂ (Err r) (Ok n) x y = absurd (omega (arith, x.0, y.0))
+one_end run held p s s₁ s₂ d d₁ d₂ (Err r₁) (Err r₂) (h, a, b, c) (h', a', b', c') =
+    (ap Err (a ∙ sym a'), b ∙ sym b', c ∙ sym c')

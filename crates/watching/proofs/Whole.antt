@@ -1,4 +1,5 @@
 -- As long as no line is refused the state is a watched one, so each tick's window is the rules' own. Assumes nothing.
+use Rattle.std.specs.Prelude.{Ok, Some, None}
 use Prim.Native.Nat.{ℕ, suc, ◌≤◌, ◌<◌}
 use mathlib.Core.Path.{◌≡◌, refl, sym, ap, subst, ◌∙◌}
 use mathlib.Core.Logic.{inl, inr}
@@ -14,13 +15,11 @@ use Rattle.detector.proofs.History.{next_tick_snoc}
 use Rattle.body.specs.Postfix.{encode}
 use Rattle.body.specs.Claim.{BodyOf}
 use Rattle.text.specs.Answer.{IsRead}
-use Rattle.watcher.specs.declared.Ticking.TheVariants as Ticks
 use Rattle.watcher.specs.Answer.{TickAnswers}
 use Rattle.watcher.specs.Claim.{Watched, opened as watched, window as windowed, nothing as unmoved}
 use Rattle.watcher.proofs.Agrees.{watched_reached}
 use Rattle.watcher.proofs.Theorem.{agrees}
 use Rattle.tally.specs.declared.Tally.{Tally}
-use Rattle.tally.specs.declared.Adding.TheVariants.{Added}
 use Rattle.tally.specs.Tallied.{added_to}
 use Rattle.tally.specs.Claim.{Window, span, Adds, one, none as no_windows}
 use Rattle.tally.proofs.Theorem.{sums}
@@ -65,12 +64,12 @@ record Accepted (e : Pattern) (h : List Tick) (run run' : Run) (ls : List (List 
 module _ (b : List ℕ) (e : Pattern) (body : BodyOf argument_bytes b e) where
   module _ (h : List Tick) (run run' : Run) (l s s₁ rest : List ℕ) (ls : List (List ℕ)) (t w : ℕ) (x : Watched b h s) (r : IsTick l t w) where
     -- a line with a window
-    with_window : (start : ℕ) (tally : Tally) → TickAnswers s s₁ t w (Ticks.Window start) → added_to run.tally start t ≡ Added tally
+    with_window : (start : ℕ) (tally : Tally) → TickAnswers s s₁ t w (Ok (Some start)) → added_to run.tally start t ≡ Ok tally
         → Accepted e (h ++ ((t, w) ∷ [])) (next_run run tally) run' ls rest → Accepted e h run run' (l ∷ ls) (window_line start t ++ rest)
     unfolding window_lines
     with_window start tally i y g =
         let late : next_tick 0 h ≤ t = rising_last 0 h (t, w) (watched_reached b e body (windowed t w start x i)).rising in
-        let a = agrees b e body h s s₁ x t w (Ticks.Window start) late r.range i in
+        let a = agrees b e body h s s₁ x t w (Ok (Some start)) late r.range i in
         record {
           ticks = (t, w) ∷ g.ticks;
           lines = line t w r g.lines;
@@ -82,11 +81,11 @@ module _ (b : List ℕ) (e : Pattern) (body : BodyOf argument_bytes b e) where
         }
 
     -- a line with none
-    without_window : TickAnswers s s₁ t w Ticks.Nothing → Accepted e (h ++ ((t, w) ∷ [])) (next_run run run.tally) run' ls rest
+    without_window : TickAnswers s s₁ t w (Ok None) → Accepted e (h ++ ((t, w) ∷ [])) (next_run run run.tally) run' ls rest
         → Accepted e h run run' (l ∷ ls) rest
     without_window i g =
         let late : next_tick 0 h ≤ t = rising_last 0 h (t, w) (watched_reached b e body (unmoved t w x i)).rising in
-        let a = agrees b e body h s s₁ x t w Ticks.Nothing late r.range i in
+        let a = agrees b e body h s s₁ x t w (Ok None) late r.range i in
         record {
           ticks = (t, w) ∷ g.ticks;
           lines = line t w r g.lines;

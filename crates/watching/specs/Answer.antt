@@ -1,26 +1,21 @@
 -- What a line does to a run, by the promises of reading, opening, ticking and adding; and what is written for it (docs/RULES.md, "The watch
 -- program"). Assumes nothing: these are definitions.
-use Rattle.std.specs.Prelude.{ℕ, ◌<◌, ◌≡◌, List, [], take, replicate}
+use Rattle.std.specs.Prelude.{ℕ, ◌<◌, ◌≡◌, List, [], take, replicate, Ok, Err, Some, None, Result, Option}
 use Rattle.refusal.specs.declared.Refusal.{Refusal}
 use Rattle.refusal.specs.Table.{number_of}
-use Rattle.text.specs.declared.Reading.TheVariants as Reads
 use Rattle.text.specs.Answer.{ReadingOf}
-use Rattle.watcher.specs.declared.Opening.TheVariants as Opens
-use Rattle.watcher.specs.declared.Ticking.TheVariants as Ticks
 use Rattle.watcher.specs.Answer.{OpenAnswers, TickAnswers}
 use Rattle.tally.specs.declared.Tally.{Tally}
-use Rattle.tally.specs.declared.Adding.TheVariants as Adds
 use Rattle.tally.specs.Tallied.{added_to}
-use Rattle.line.specs.declared.LineRead.TheVariants as Lines
-use Rattle.line.specs.declared.LineWritten.{LineWritten}
-use Rattle.line.specs.declared.LineWritten.TheVariants as Writes
 use Rattle.line.specs.Lines.{window_line, refused_line}
 use Rattle.line.specs.Answer.{LineReadOf, IsWritten}
 use Rattle.watching.specs.declared.Run.{Run}
 use Rattle.watching.specs.declared.Taken.{Taken}
-use Rattle.watching.specs.declared.LineAnswer.{LineAnswer}
-use Rattle.watching.specs.declared.LineAnswer.TheVariants.{Nothing, Window, Refused}
 use Rattle.watching.specs.Runs.{next_line, next_run, ended}
+
+-- what a line answers: nothing to report, a window by its start and end, or why the line is refused
+abbrev pub LineAnswer : Type 0
+LineAnswer = Result (Option (ℕ × ℕ)) Refusal
 
 -- room for the longest body
 abbrev pub no_body : List ℕ
@@ -28,18 +23,18 @@ no_body = replicate 315 0
 
 -- line 1 is read as a pattern's text into a body, and the state is opened with that; the line is refused as reading or opening is
 pub data FirstLine (l s s' : List ℕ) : LineAnswer → Type 0 where
-  unread : {body : List ℕ} {r : Refusal} → ReadingOf l no_body body (Reads.Refused r) → s' ≡ s → FirstLine l s s' (Refused r)
-  unopened : {body : List ℕ} {bytes : ℕ} {r : Refusal} → ReadingOf l no_body body (Reads.Read bytes)
-      → OpenAnswers (take bytes body) s s' (Opens.Refused r) → FirstLine l s s' (Refused r)
-  opened : {body : List ℕ} {bytes : ℕ} → ReadingOf l no_body body (Reads.Read bytes) → OpenAnswers (take bytes body) s s' Opens.Opened
-      → FirstLine l s s' Nothing
+  unread : {body : List ℕ} {r : Refusal} → ReadingOf l no_body body (Err r) → s' ≡ s → FirstLine l s s' (Err r)
+  unopened : {body : List ℕ} {bytes : ℕ} {r : Refusal} → ReadingOf l no_body body (Ok bytes)
+      → OpenAnswers (take bytes body) s s' (Err r) → FirstLine l s s' (Err r)
+  opened : {body : List ℕ} {bytes : ℕ} → ReadingOf l no_body body (Ok bytes) → OpenAnswers (take bytes body) s s' (Ok tt)
+      → FirstLine l s s' (Ok None)
 
 -- a further line is read as a tick t with the events w, and the state takes that; the line is refused as reading (14, then 10) or the tick (11) is
 pub data FurtherLine (l s s' : List ℕ) : LineAnswer → Type 0 where
-  unread : {r : Refusal} → LineReadOf l (Lines.Refused r) → s' ≡ s → FurtherLine l s s' (Refused r)
-  unticked : {t w : ℕ} {r : Refusal} → LineReadOf l (Lines.Tick t w) → TickAnswers s s' t w (Ticks.Refused r) → FurtherLine l s s' (Refused r)
-  window : {t w start : ℕ} → LineReadOf l (Lines.Tick t w) → TickAnswers s s' t w (Ticks.Window start) → FurtherLine l s s' (Window start t)
-  nothing : {t w : ℕ} → LineReadOf l (Lines.Tick t w) → TickAnswers s s' t w Ticks.Nothing → FurtherLine l s s' Nothing
+  unread : {r : Refusal} → LineReadOf l (Err r) → s' ≡ s → FurtherLine l s s' (Err r)
+  unticked : {t w : ℕ} {r : Refusal} → LineReadOf l (Ok (record { t = t; events = w })) → TickAnswers s s' t w (Err r) → FurtherLine l s s' (Err r)
+  window : {t w start : ℕ} → LineReadOf l (Ok (record { t = t; events = w })) → TickAnswers s s' t w (Ok (Some start)) → FurtherLine l s s' (Ok (Some (start, t)))
+  nothing : {t w : ℕ} → LineReadOf l (Ok (record { t = t; events = w })) → TickAnswers s s' t w (Ok None) → FurtherLine l s s' (Ok None)
 
 -- `refused line L code R`, where L is the line after those taken
 abbrev pub refusing : Run → Refusal → List ℕ
@@ -47,11 +42,11 @@ refusing run r = refused_line (next_line run.line) (number_of r)
 
 -- an answer acted on: the run after it, and the bytes written. A window is added to the tally, and refused if that is full
 pub data Acted (run : Run) : LineAnswer → Run → List ℕ → Type 0 where
-  silent : Acted run Nothing (next_run run run.tally) []
-  added : {start t : ℕ} {tally : Tally} → added_to run.tally start t ≡ Adds.Added tally
-      → Acted run (Window start t) (next_run run tally) (window_line start t)
-  full : {start t : ℕ} {r : Refusal} → added_to run.tally start t ≡ Adds.Refused r → Acted run (Window start t) (ended run) (refusing run r)
-  refused : {r : Refusal} → Acted run (Refused r) (ended run) (refusing run r)
+  silent : Acted run (Ok None) (next_run run run.tally) []
+  added : {start t : ℕ} {tally : Tally} → added_to run.tally start t ≡ Ok tally
+      → Acted run (Ok (Some (start, t))) (next_run run tally) (window_line start t)
+  full : {start t : ℕ} {r : Refusal} → added_to run.tally start t ≡ Err r → Acted run (Ok (Some (start, t))) (ended run) (refusing run r)
+  refused : {r : Refusal} → Acted run (Err r) (ended run) (refusing run r)
 
 -- a line l taken, where the state s becomes s': the run after it, and the bytes written. After a refusal nothing is done
 pub data LineTaken (run : Run) (l s s' : List ℕ) : Run → List ℕ → Type 0 where
@@ -72,8 +67,3 @@ pub record IsActed (run : Run) (a : LineAnswer) (d d' : List ℕ) (taken : Taken
   pub bytes : List ℕ
   pub acted : Acted run a taken.run bytes
   pub written : IsWritten bytes d d' taken.written
-
--- the bytes written, none if there was no room
-abbrev pub bytes_in : LineWritten → ℕ
-bytes_in (Writes.Written n) = n
-bytes_in (Writes.Refused r) = 0

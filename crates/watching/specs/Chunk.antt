@@ -1,18 +1,15 @@
 -- Input taken in pieces, as it is read: the bytes held of a line that has not ended, and what is written for the lines that end.
 -- Assumes nothing: these are definitions.
-use Rattle.std.specs.Prelude.{ℕ, ◌+◌, ◌-◌, ◌<◌, ◌≤◌, min, ◌≡◌, cond, List, [], ◌∷◌, ◌++◌, eqb, length, take, drop}
+use Rattle.std.specs.Prelude.{ℕ, ◌+◌, ◌-◌, ◌<◌, ◌≤◌, min, ◌≡◌, cond, List, [], ◌∷◌, ◌++◌, eqb, length, take, drop, Ok, Err, Result}
 use Rattle.refusal.specs.declared.Refusal.TheVariants.{Room}
 use Rattle.line.specs.Lines.{most_written, most_tally}
 use Rattle.line.specs.Answer.{IsWritten}
 use Rattle.watching.specs.declared.Run.{Run}
 use Rattle.watching.specs.declared.Chunked.{Chunked}
-use Rattle.watching.specs.declared.Chunking.{Chunking}
-use Rattle.watching.specs.declared.Chunking.TheVariants as Chunks
-use Rattle.watching.specs.declared.Finishing.{Finishing}
-use Rattle.watching.specs.declared.Finishing.TheVariants as Ending
 use Rattle.watching.specs.Runs.{finish_line}
 use Rattle.watching.specs.Answer.{LineTaken}
 use Rattle.watching.specs.Whole.{Takes}
+use Rattle.refusal.specs.declared.Refusal.{Refusal}
 
 -- a line with this many bytes is too long, whatever follows: no more of it is held
 abbrev pub most_held : ℕ
@@ -48,9 +45,9 @@ pub record IsChunked (run : Run) (held : ℕ) (chunk p p' s s' d d' : List ℕ) 
   pub written : IsWritten bytes d d' r.written
 
 -- the promise of taking a chunk, where the bytes held stand in p; if p is too short for a line, nothing is done
-abbrev pub ChunkAnswers : Run → ℕ → List ℕ → List ℕ → List ℕ → List ℕ → List ℕ → List ℕ → List ℕ → Chunking → Type 0
-ChunkAnswers run held chunk p p' s s' d d' (Chunks.Taken r) = (most_held ≤ length p) × IsChunked run held chunk p p' s s' d d' r
-ChunkAnswers run held chunk p p' s s' d d' (Chunks.Refused r) = (length p < most_held) × (r ≡ Room most_held) × (p' ≡ p) × (s' ≡ s) × (d' ≡ d)
+abbrev pub ChunkAnswers : Run → ℕ → List ℕ → List ℕ → List ℕ → List ℕ → List ℕ → List ℕ → List ℕ → Result Chunked Refusal → Type 0
+ChunkAnswers run held chunk p p' s s' d d' (Ok r) = (most_held ≤ length p) × IsChunked run held chunk p p' s s' d d' r
+ChunkAnswers run held chunk p p' s s' d d' (Err r) = (length p < most_held) × (r ≡ Room most_held) × (p' ≡ p) × (s' ≡ s) × (d' ≡ d)
 
 -- the lines that the end of input ends: what is held, if anything; and line 1, if there was none
 abbrev pub last_lines : Run → List ℕ → List (List ℕ)
@@ -69,16 +66,16 @@ abbrev pub most_finish : ℕ
 most_finish = most_written + most_tally
 
 -- the promise of finishing, where the bytes held stand in p; if there is no room, nothing is done
-abbrev pub FinishAnswers : Run → ℕ → List ℕ → List ℕ → List ℕ → List ℕ → List ℕ → Finishing → Type 0
-FinishAnswers run held p s s' d d' (Ending.Finished n) =
+abbrev pub FinishAnswers : Run → ℕ → List ℕ → List ℕ → List ℕ → List ℕ → List ℕ → Result ℕ Refusal → Type 0
+FinishAnswers run held p s s' d d' (Ok n) =
     (most_finish ≤ length d) × ((output : List ℕ) × Ends run (held_in held p) s s' output × IsWritten output d d' n)
-FinishAnswers run held p s s' d d' (Ending.Refused r) = (length d < most_finish) × (r ≡ Room most_finish) × (s' ≡ s) × (d' ≡ d)
+FinishAnswers run held p s s' d d' (Err r) = (length d < most_finish) × (r ≡ Room most_finish) × (s' ≡ s) × (d' ≡ d)
 
 -- an input given in chunks of any size, with any room for output each time: each call is given what the one before it left, and the bytes that
 -- were not used come first in its chunk
 pub data Given : Run → ℕ → List ℕ → List ℕ → List ℕ → Run → ℕ → List ℕ → List ℕ → List ℕ → Type 0 where
   none : {run : Run} {held : ℕ} {p s : List ℕ} → Given run held p s [] run held p s []
   more : {run run' : Run} {held held' : ℕ} {p p₁ p' s s₁ s' d d' chunk rest : List ℕ} {r : Chunked} (later : List ℕ)
-      → ChunkAnswers run held chunk p p₁ s s₁ d d' (Chunks.Taken r)
+      → ChunkAnswers run held chunk p p₁ s s₁ d d' (Ok r)
       → Given r.run r.held p₁ s₁ (drop r.used chunk ++ later) run' held' p' s' rest
       → Given run held p s (chunk ++ later) run' held' p' s' (take r.written d' ++ rest)

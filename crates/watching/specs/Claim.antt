@@ -1,6 +1,6 @@
 -- What is claimed of a whole input: that the output is what the rules ask for (docs/RULES.md, "The watch program"); and that the promises leave no
 -- choice. Assumes nothing: these are definitions.
-use Rattle.std.specs.Prelude.{ℕ, suc, zero, ◌≤◌, ◌≡◌, List, [], ◌∷◌, ◌++◌, length, take}
+use Rattle.std.specs.Prelude.{ℕ, suc, zero, ◌≤◌, ◌≡◌, List, [], ◌∷◌, ◌++◌, length, take, Ok, Result}
 use Rattle.rules.specs.Limits.{most_entries, most_text}
 use Rattle.rules.specs.Pattern.{Pattern, size}
 use Rattle.rules.specs.Instances.{Has, Latest}
@@ -11,12 +11,11 @@ use Rattle.tally.specs.Claim.{Window, span}
 use Rattle.line.specs.Lines.{window_line, tally_line}
 use Rattle.line.specs.Answer.{IsTick}
 use Rattle.watching.specs.declared.Run.{Run}
-use Rattle.watching.specs.declared.Chunking.{Chunking}
-use Rattle.watching.specs.declared.Finishing.{Finishing}
-use Rattle.watching.specs.declared.Finishing.TheVariants.{Finished}
 use Rattle.watching.specs.Runs.{fresh}
 use Rattle.watching.specs.Whole.{lines_of, Takes, Prints}
 use Rattle.watching.specs.Chunk.{ChunkAnswers, FinishAnswers, Given}
+use Rattle.refusal.specs.declared.Refusal.{Refusal}
+use Rattle.watching.specs.declared.Chunked.{Chunked}
 
 -- lines that are each the line of a tick: the ticks
 pub data AreTicks : List (List ℕ) → List Tick → Type 0 where
@@ -95,7 +94,7 @@ SoundPrinted =
 abbrev pub InputPrints : Type 0
 InputPrints =
     (s s₁ s' p p' d d' input bytes : List ℕ) (run : Run) (held n : ℕ) → Given fresh 0 p s input run held p' s₁ bytes
-    → FinishAnswers run held p' s₁ s' d d' (Finished n) → Prints s input (bytes ++ take n d')
+    → FinishAnswers run held p' s₁ s' d d' (Ok n) → Prints s input (bytes ++ take n d')
 
 -- what is written for an input stands first in the output for every input that begins with it
 abbrev pub OutputBegins : Type 0
@@ -106,13 +105,13 @@ OutputBegins =
 -- no second answer, held bytes, state and output meet the promise of taking a chunk
 abbrev pub OneChunk : Type 0
 OneChunk =
-    (run : Run) (held : ℕ) (chunk p p₁ p₂ s s₁ s₂ d d₁ d₂ : List ℕ) (r₁ r₂ : Chunking) → ChunkAnswers run held chunk p p₁ s s₁ d d₁ r₁
+    (run : Run) (held : ℕ) (chunk p p₁ p₂ s s₁ s₂ d d₁ d₂ : List ℕ) (r₁ r₂ : Result Chunked Refusal) → ChunkAnswers run held chunk p p₁ s s₁ d d₁ r₁
     → ChunkAnswers run held chunk p p₂ s s₂ d d₂ r₂ → (r₁ ≡ r₂) × (p₁ ≡ p₂) × (s₁ ≡ s₂) × (d₁ ≡ d₂)
 
 -- nor that of finishing
 abbrev pub OneEnd : Type 0
 OneEnd =
-    (run : Run) (held : ℕ) (p s s₁ s₂ d d₁ d₂ : List ℕ) (r₁ r₂ : Finishing) → FinishAnswers run held p s s₁ d d₁ r₁
+    (run : Run) (held : ℕ) (p s s₁ s₂ d d₁ d₂ : List ℕ) (r₁ r₂ : Result ℕ Refusal) → FinishAnswers run held p s s₁ d d₁ r₁
     → FinishAnswers run held p s s₂ d d₂ r₂ → (r₁ ≡ r₂) × (s₁ ≡ s₂) × (d₁ ≡ d₂)
 
 -- the words that the program has are enough for the state of any pattern

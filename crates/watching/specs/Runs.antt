@@ -1,8 +1,16 @@
 -- A run of the watch program (docs/RULES.md, "The watch program"): how far it is, and the run after a line. Assumes nothing: these are definitions.
-use Rattle.std.specs.Prelude.{ℕ, ◌+◌, ◌-◌, ◌^◌, min, cond, List, [], eqb}
+use Rattle.std.specs.Prelude.{◌≡◌, ◌<◌, ℕ, ◌+◌, ◌-◌, ◌^◌, min, cond, List, [], eqb}
 use Rattle.tally.specs.declared.Tally.{Tally}
 use Rattle.line.specs.Lines.{tally_line}
+use Rattle.watching.specs.declared.Phase.{Phase}
+use Rattle.watching.specs.declared.Phase.TheVariants.{Fresh, Running, Ended}
 use Rattle.watching.specs.declared.Run.{Run}
+
+-- the phase number of a run that is as far as this
+abbrev pub IsPhase : ℕ → Phase → Type 0
+IsPhase n Fresh = n ≡ 0
+IsPhase n Running = n ≡ 1
+IsPhase n Ended = 1 < n
 
 -- before line 1
 abbrev pub fresh : Run

@@ -4,9 +4,8 @@ ghost use Rattle.watching.specs.inner.Progress.{Progress, Ready};
 ghost use Rattle.watching.specs.inner.Batch.{most_ticks, most_reported, FoundAt, MayEnd, Gathers};
 ghost use Rattle.watching.specs.inner.Batch.{FarFromFull, ReportReady, IsReported, ReportAllReady, IsAllReported};
 
-use super::{Chunked, Run, Taken};
-use line::LineRead;
-use watcher::Feeding;
+use super::{Chunked, Phase, Run, Taken};
+use line::Tick;
 
 // The number of lines read at once.
 const MOST_TICKS: usize = 64;
@@ -17,11 +16,11 @@ const MOST_REPORTED: usize = 3840;
 // A tally with both numbers below this has room for the windows of all these lines.
 const FAR: u64 = 0x8000_0000_0000_0000;
 
-// A line that was found: its tick, its events and the place of its line feed; or that it is not a tick's.
+// A line that was found: its tick, and the place of its line feed.
 #[derive(Clone, Copy)]
-pub(crate) enum Found {
-    Tick(u64, u32, usize),
-    Other,
+pub(crate) struct Found {
+    pub tick: Tick,
+    pub end: usize,
 }
 
 // Lines read: how many, and the place after them.
@@ -59,11 +58,10 @@ fn take_batch(p: Chunked, input: &[u8], state: &mut [u64], out: &mut [u8]) -> Ch
     ensures { Progress p.run [] p.used p.written input.now state.old state.new
         out.old out.new result }
 {
-    let run = p.run;
     if out.len() - p.written < MOST_REPORTED {
         return p;
     }
-    if far_from_full(run) {
+    if far_from_full(p.run) {
         return feed_batch(p, input, state, out);
     }
     p
@@ -73,14 +71,7 @@ fn take_batch(p: Chunked, input: &[u8], state: &mut [u64], out: &mut [u8]) -> Ch
 fn far_from_full(run: Run) -> bool
     ensures { result ≡ true → FarFromFull run }
 {
-    if run.phase != 1 {
-        return false;
-    }
-    let tally = run.tally;
-    if tally.windows < FAR {
-        return tally.ticks < FAR;
-    }
-    false
+    run.phase() == Phase::Running && run.tally.windows < FAR && run.tally.ticks < FAR
 }
 
 // Reads the lines, feeds the state with their ticks, and reports the windows; if feeding is refused, nothing is done.
@@ -89,20 +80,18 @@ fn feed_batch(p: Chunked, input: &[u8], state: &mut [u64], out: &mut [u8]) -> Ch
     ensures { Progress p.run [] p.used p.written input.now state.old state.new
         out.old out.new result }
 {
-    let mut ticks = [0u64; 64];
-    let mut events = [0u32; 64];
-    let mut answers = [0u64; 64];
+    let mut ticks = [0u64; MOST_TICKS];
+    let mut events = [0u32; MOST_TICKS];
+    let mut answers = [0u64; MOST_TICKS];
     let lines = read_lines(input, p.used, &mut ticks, &mut events);
     let n = lines.count;
     match watcher::feed(state, &ticks[0..n], &events[0..n], &mut answers) {
-        Feeding::Refused(_) => p,
-        Feeding::Fed => {
-            let run = p.run;
+        Err(_) => p,
+        Ok(()) => {
             let at = p.written;
-            let reported = report_all(run, &ticks[0..n], &answers, &mut out[at..]);
-            let later = reported.run;
+            let reported = report_all(p.run, &ticks[0..n], &answers, &mut out[at..]);
             Chunked {
-                run: later,
+                run: reported.run,
                 held: 0,
                 used: lines.used,
                 written: at + reported.written,
@@ -118,36 +107,31 @@ fn read_lines(input: &[u8], from: usize, ticks: &mut [u64], events: &mut [u32]) 
 {
     let mut at = from;
     let mut shortest: usize = crate::MOST_HELD;
-    let mut n: usize = 0;
-    while n < MOST_TICKS {
-        match find_line(input, at, shortest) {
-            Found::Other => {
-                return Gathered { count: n, used: at };
-            }
-            Found::Tick(t, word, end) => {
-                ticks[n] = t;
-                events[n] = word;
-                n += 1;
-                shortest = crate::pieces::least(shortest, end - at);
-                at = end + 1;
-            }
-        }
+    for n in 0..MOST_TICKS {
+        let Some(found) = find_line(input, at, shortest) else {
+            return Gathered { count: n, used: at };
+        };
+        ticks[n] = found.tick.t;
+        events[n] = found.tick.events;
+        shortest = shortest.min(found.end - at);
+        at = found.end + 1;
     }
-    Gathered { count: n, used: at }
+    Gathered {
+        count: MOST_TICKS,
+        used: at,
+    }
 }
 
 // The line from a place on. Its end is first looked for no earlier than the shortest line so far would end; if a tick is read up to there, that is it.
-fn find_line(input: &[u8], at: usize, shortest: usize) -> Found
+fn find_line(input: &[u8], at: usize, shortest: usize) -> Option<Found>
     requires { at ≤ length input.now }
     ensures { FoundAt input.now at result }
 {
     if shortest < input.len() - at {
         let end = crate::pieces::line_end(input, at + shortest);
-        match line_to(input, at, end) {
-            Found::Tick(t, word, there) => {
-                return Found::Tick(t, word, there);
-            }
-            Found::Other => {}
+        let found = line_to(input, at, end);
+        if found.is_some() {
+            return found;
         }
     }
     let end = crate::pieces::line_end(input, at);
@@ -155,16 +139,16 @@ fn find_line(input: &[u8], at: usize, shortest: usize) -> Found
 }
 
 // The line from a place to a line feed.
-fn line_to(input: &[u8], from: usize, end: usize) -> Found
+fn line_to(input: &[u8], from: usize, end: usize) -> Option<Found>
     requires { MayEnd input.now from end }
     ensures { FoundAt input.now from result }
 {
     if end == input.len() {
-        return Found::Other;
+        return None;
     }
     match line::read_tick(&input[from..end]) {
-        LineRead::Refused(_) => Found::Other,
-        LineRead::Tick(t, word) => Found::Tick(t, word, end),
+        Err(_) => None,
+        Ok(tick) => Some(Found { tick, end }),
     }
 }
 
@@ -175,16 +159,14 @@ fn report_all(run: Run, ticks: &[u64], answers: &[u64], out: &mut [u8]) -> Taken
 {
     let mut later = run;
     let mut written: usize = 0;
-    let mut i: usize = 0;
-    while i < ticks.len() {
+    for i in 0..ticks.len() {
         let reported = report(later, ticks[i], answers[i], &mut out[written..]);
         later = reported.run;
         written += reported.written;
-        i += 1;
     }
     Taken {
         run: later,
-        written: written,
+        written,
     }
 }
 

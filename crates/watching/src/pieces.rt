@@ -1,10 +1,10 @@
 // Input in pieces: where a line ends, the bytes held of it, and the lines that end in a chunk.
-ghost use Rattle.std.specs.Prelude.{◌≡◌, [], ◌+◌, ◌-◌, ◌≤◌, ◌<◌, min, length, take, drop};
+ghost use Rattle.std.specs.Prelude.{◌≡◌, ◌==◌, position, [], ◌+◌, ◌-◌, ◌≤◌, ◌<◌, length, take, drop};
 ghost use Rattle.line.specs.Lines.{most_written};
 ghost use Rattle.watching.specs.Chunk.{most_held, IsChunked};
 ghost use Rattle.watching.specs.inner.Progress.{line_length, Appended, Progress, Ready, LineReady, LinesTaken, JoinReady, HeldRest, LastTaken};
 
-use super::{Chunked, Run, Taken};
+use super::{Chunked, Phase, Run, Taken};
 
 // Takes a chunk, where `part` has room for a line.
 pub(crate) fn take(
@@ -19,10 +19,10 @@ pub(crate) fn take(
     ensures { IsChunked run held chunk.now part.old part.new state.old state.new
         out.old out.new result }
 {
-    let kept = least(held, crate::MOST_HELD);
+    let kept = held.min(crate::MOST_HELD);
     if out.len() < line::MOST_WRITTEN {
         return Chunked {
-            run: run,
+            run,
             held: kept,
             used: 0,
             written: 0,
@@ -31,7 +31,7 @@ pub(crate) fn take(
     let end = line_end(chunk, 0);
     if end == chunk.len() {
         return Chunked {
-            run: run,
+            run,
             held: append(part, kept, chunk),
             used: end,
             written: 0,
@@ -56,14 +56,9 @@ pub(crate) fn take_last(
     requires { most_written ≤ length out.old }
     ensures { LastTaken run held part.now state.old state.new out.old out.new result }
 {
-    let kept = least(least(held, crate::MOST_HELD), part.len());
-    if kept == 0 {
-        if run.phase != 0 {
-            return Taken {
-                run: run,
-                written: 0,
-            };
-        }
+    let kept = held.min(crate::MOST_HELD).min(part.len());
+    if kept == 0 && run.phase() != Phase::Fresh {
+        return Taken { run, written: 0 };
     }
     crate::take_line(run, &part[0..kept], state, out)
 }
@@ -82,13 +77,12 @@ fn take_joined(
     ensures { Progress run (take held part.now) 0 0 chunk.now state.old state.new
         out.old out.new result }
 {
-    let mut line = [0u8; 1025];
+    let mut line = [0u8; crate::MOST_HELD];
     let from = append(&mut line, 0, &part[0..held]);
     let bytes = append(&mut line, from, &chunk[0..end]);
     let taken = crate::take_line(run, &line[0..bytes], state, out);
-    let later = taken.run;
     Chunked {
-        run: later,
+        run: taken.run,
         held: 0,
         used: end + 1,
         written: taken.written,
@@ -128,12 +122,10 @@ fn take_next(p: Chunked, input: &[u8], end: usize, state: &mut [u64], out: &mut 
 {
     let from = p.used;
     let at = p.written;
-    let run = p.run;
-    let to = from + least(end - from, crate::MOST_HELD);
-    let taken = crate::take_line(run, &input[from..to], state, &mut out[at..]);
-    let later = taken.run;
+    let to = from + (end - from).min(crate::MOST_HELD);
+    let taken = crate::take_line(p.run, &input[from..to], state, &mut out[at..]);
     Chunked {
-        run: later,
+        run: taken.run,
         held: 0,
         used: end + 1,
         written: at + taken.written,
@@ -145,11 +137,9 @@ fn hold_rest(lines: Chunked, chunk: &[u8], part: &mut [u8]) -> Chunked
     requires { (lines.used ≤ length chunk.now) × (most_held ≤ length part.old) }
     ensures { HeldRest chunk.now part.old part.new lines result }
 {
-    let run = lines.run;
-    let from = lines.used;
     Chunked {
-        run: run,
-        held: append(part, 0, &chunk[from..]),
+        run: lines.run,
+        held: append(part, 0, &chunk[lines.used..]),
         used: chunk.len(),
         written: lines.written,
     }
@@ -160,7 +150,7 @@ fn append(part: &mut [u8], from: usize, piece: &[u8]) -> usize
     requires { (from ≤ most_held) × (most_held ≤ length part.old) }
     ensures { Appended part.old from piece.now part.new result }
 {
-    let n = least(piece.len(), crate::MOST_HELD - from);
+    let n = piece.len().min(crate::MOST_HELD - from);
     copying::copy(&piece[0..n], &mut part[from..]);
     from + n
 }
@@ -170,21 +160,13 @@ pub(crate) fn line_end(input: &[u8], from: usize) -> usize
     requires { from ≤ length input.now }
     ensures { (result ≡ from + line_length (drop from input.now)) × (result ≤ length input.now) }
 {
-    let mut at = from;
-    while at < input.len() {
-        if input[at] == b'\n' {
-            return at;
-        }
-        at += 1;
-    }
-    at
+    let rest = &input[from..];
+    from + feed(rest).unwrap_or(rest.len())
 }
 
-pub(crate) fn least(a: usize, b: usize) -> usize
-    ensures { result ≡ min a b }
+// The place of the first line feed.
+fn feed(input: &[u8]) -> Option<usize>
+    ensures { result ≡ position (λ c. c == 10) input.now }
 {
-    if a < b {
-        return a;
-    }
-    b
+    input.iter().position(|byte| *byte == b'\n')
 }

@@ -7,14 +7,6 @@ pub returns-in-Either : goal.returns-in-Either
 unfolding cell_starts
 returns-in-Either c = push_same _ _ _ _ (rw c.in-Either.is)
 
-pub returns-in-Both : goal.returns-in-Both
-returns-in-Both c =
-    rw c.in-Both.is c.push_both.ensures
-
 pub returns-in-Without : goal.returns-in-Without
 unfolding cell_starts
 returns-in-Without c = push_same _ _ _ _ (rw c.in-Without.is)
-
-pub returns-in-Chain : goal.returns-in-Chain
-returns-in-Chain c =
-    rw c.in-Chain.is c.push_chain.ensures

@@ -9,7 +9,7 @@ use Rattle.cell.proofs.step.Goals as goal
 pub returns-then-cell-eq0 : goal.returns-then-cell-eq0
 returns-then-cell-eq0 c =
     rw c.in-Either.is
-    (step_answers (is_either _ _ ∙ eq-eqb _ _ c.if-cell-eq0.true) (either_stepped _ _ _ _ _ _ c.larger.ensures))
+    (step_answers (is_either _ _ ∙ eq-eqb _ _ c.if-cell-eq0.true) (either_stepped _ _ _ _ _ _ c.max.ensures))
 
 pub returns-then-cell-eq4 : goal.returns-then-cell-eq4
 returns-then-cell-eq4 c =
@@ -24,10 +24,6 @@ chain_step-requires c =
     let u = is_chain_ready _ _ (sym c.is_chain.ensures ∙ c.if-is_chain.true) in
     record { few = u.0; words = u.1 }
 
-pub returns-then-is_chain : goal.returns-then-is_chain
-returns-then-is_chain c =
-    rw c.in-Chain.is (step_answers (sym c.is_chain.ensures ∙ c.if-is_chain.true) c.chain_step.ensures)
-
 pub returns-else-cell-eq0 : goal.returns-else-cell-eq0
 returns-else-cell-eq0 c = rw c.in-Either.is (step_left _ _ _ _ _ _ (is_either _ _ ∙ ne_eqb _ _ c.if-cell-eq0.false))
 
@@ -36,6 +32,3 @@ returns-else-cell-eq4 c = rw c.in-Both.is (step_left _ _ _ _ _ _ (is_both _ _ �
 
 pub returns-else-cell-eq1 : goal.returns-else-cell-eq1
 returns-else-cell-eq1 c = rw c.in-Without.is (step_left _ _ _ _ _ _ (is_without _ _ ∙ ne_eqb _ _ c.if-cell-eq1.false))
-
-pub returns-else-is_chain : goal.returns-else-is_chain
-returns-else-is_chain c = rw c.in-Chain.is (step_left _ _ _ _ _ _ (sym c.is_chain.ensures ∙ c.if-is_chain.false))

@@ -8,15 +8,15 @@ use Rattle.plain.proofs.chain_row.Goals as goal
 
 pub bounds-left-u : goal.bounds-left-u
 bounds-left-u c =
-    let l = subst (IsLatest _) c.in-At.is c.latest_start.ensures in
-    omega (arith, c.requires.long, has_lt c.args.y 64 c.in-At.u c.ranges.y.fits l.0)
+    let l = subst (IsLatest _) c.in-Some.is c.latest_start.ensures in
+    omega (arith, c.requires.long, has_lt c.args.y 64 c.in-Some.u c.ranges.y.fits l.0)
 
-pub returns-in-Nowhere : goal.returns-in-Nowhere
-returns-in-Nowhere c =
-    chain_none c.args.x.now _ (subst (IsLatest _) c.in-Nowhere.is c.latest_start.ensures)
+pub returns-in-None : goal.returns-in-None
+returns-in-None c =
+    chain_none c.args.x.now _ (subst (IsLatest _) c.in-None.is c.latest_start.ensures)
 
-pub returns-in-At : goal.returns-in-At
-returns-in-At c =
-    let l = subst (IsLatest _) c.in-At.is c.latest_start.ensures in
-    chain_at c.args.x.now _ c.in-At.u _ l
-    (c.requires.masked c.in-At.u (omega (arith, has_lt c.args.y 64 c.in-At.u c.ranges.y.fits l.0)))
+pub returns-in-Some : goal.returns-in-Some
+returns-in-Some c =
+    let l = subst (IsLatest _) c.in-Some.is c.latest_start.ensures in
+    chain_at c.args.x.now _ c.in-Some.u _ l
+    (c.requires.masked c.in-Some.u (omega (arith, has_lt c.args.y 64 c.in-Some.u c.ranges.y.fits l.0)))

@@ -1,10 +1,6 @@
--- `plain::fill_rows` meets its contract: the invariant is `Filling`, the measure the entries left. Assumes nothing.
-use Prim.Native.Nat.{◌-◌}
+-- `plain::fill_rows` meets its contract: the invariant is `Filling`. Assumes nothing.
 use Rattle.plain.proofs.Loops.{Filling}
 use Rattle.plain.proofs.fill_rows.Given as goal
 
-abbrev pub invariant-loop-i : goal.invariant-loop-i
-invariant-loop-i l = Filling l.body l.events l.initial.rows l.n l.rows l.tops l.d l.i
-
-abbrev pub decreases-loop-i : goal.decreases-loop-i
-decreases-loop-i l = l.n - l.i
+abbrev pub invariant-loop-k : goal.invariant-loop-k
+invariant-loop-k l = Filling l.body l.events l.initial.rows l.k-end l.rows l.tops l.d l.k

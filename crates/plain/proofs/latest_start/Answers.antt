@@ -12,9 +12,6 @@ few_zeros n p h = (latest n p h).0
 pub returns-then-row-eq0 : goal.returns-then-row-eq0
 returns-then-row-eq0 c = none c.args.row (omega arith)
 
-pub overflow_sub-result : goal.overflow_sub-result
-overflow_sub-result c = few_zeros _ (λ e. omega arith) (omega arith)
-
 pub returns : goal.returns
 returns c =
     let l = latest c.args.row c.if-row-eq0.false c.ranges.row.fits in

@@ -4,7 +4,7 @@ use Rattle.rules.specs.Bits.{On}
 use Rattle.rules.specs.Limits.{most_words}
 use Rattle.rules.specs.Instances.{Instances}
 use Rattle.plain.specs.Row.{Exactly}
-use Rattle.plain.specs.Rows.{Shown, rows_of}
+use Rattle.plain.specs.Rows.{Shown}
 
 -- s is the start of an instance that rows show to end before k
 abbrev pub Before : List ℕ → ℕ → ℕ → Type 0
@@ -25,15 +25,11 @@ pub record Masked (rows masks : List ℕ) (e : ℕ) : Type 0 where
   pub seen : Seen rows masks
   pub row : e < 64
 
--- the entries x and y stand before entry k, which has its room, and their masks are made
-pub record PairReady (rows : List ℕ) (x y k : ℕ) (left right : List ℕ) : Type 0 where
-  pub x_before : x < k
-  pub y_before : y < k
-  pub room : k * most_words + most_words ≤ length rows
-  pub seen_x : Seen (rows_of rows x) left
-  pub seen_y : Seen (rows_of rows y) right
+-- entry k's rows are each a possible row of its number, and no other word changed
+pub record FilledBy (Row : ℕ → ℕ → Type 0) (k : ℕ) (old new : List ℕ) : Type 0 where
+  pub kept : (i : ℕ) → ((i < k * most_words) ⊎ (k * most_words + most_words ≤ i)) → get_or new i 0 ≡ get_or old i 0
+  pub made : (e : ℕ) → e < most_words → Row e (get_or new (k * most_words + e) 0)
 
 -- entry k's rows show the instances X that end below 64, and no other word changed
-pub record Filled (X : Instances) (k : ℕ) (old new : List ℕ) : Type 0 where
-  pub kept : (i : ℕ) → ((i < k * most_words) ⊎ (k * most_words + most_words ≤ i)) → get_or new i 0 ≡ get_or old i 0
-  pub made : (e : ℕ) → e < most_words → Exactly (get_or new (k * most_words + e) 0) (λ s. X s e)
+abbrev pub Filled : Instances → ℕ → List ℕ → List ℕ → Type 0
+Filled X = FilledBy (λ e row. Exactly row (λ s. X s e))

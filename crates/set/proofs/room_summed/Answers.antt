@@ -1,6 +1,6 @@
 use native.Mathlib.Omega.{arith}
 use Rattle.set.proofs.Files.{sound_holds}
-use Rattle.set.proofs.Opens.{summing_start, summing_few, summing_end, summing_has, summing_small, summing_more}
+use Rattle.set.proofs.Opens.{summing_start, summing_few, summing_end, summing_has, summing_small}
 use Rattle.set.proofs.room_summed.Goals as goal
 
 pub loop-i-init : goal.loop-i-init
@@ -16,9 +16,5 @@ overflow_add-words c =
     let x = c.loop-i.invariant in
     omega (arith, summing_few x, summing_small x c.loop-i-test.true c.room_at-words.result c.room_at-words.ensures)
 
-pub loop-i-preserved : goal.loop-i-preserved
-loop-i-preserved c =
-    summing_more c.loop-i.invariant c.loop-i-test.true c.room_at-words.result c.room_at-words.ensures
-
 pub returns : goal.returns
-returns c = summing_end c.loop-i.invariant c.loop-i-test.false
+returns c = summing_end c.loop-i.invariant (omega arith)

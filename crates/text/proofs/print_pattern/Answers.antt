@@ -1,43 +1,31 @@
 -- `text::print_pattern` meets its contract: what is made in the local array is the text of the body's pattern. Assumes nothing.
-use Rattle.std.proofs.Common.{sym, refl, arith}
+use Rattle.std.proofs.Common.{◌≡◌, Ok, sym, refl, arith}
+use Rattle.std.proofs.lemmas.Result.{err_from_is_err_and}
+use Rattle.rules.specs.Limits.{argument_bytes}
 use Rattle.body.specs.Bytes.{Bytes}
-use Rattle.text.specs.Answer.RefusedBody.{unsound, room}
-use Rattle.text.proofs.Printings.{body_ready, begin_inside, made_length, no_room, all_printed}
+use Rattle.body.specs.Check.{check_of}
+use Rattle.text.specs.Answer.RefusedBody.{unsound}
+use Rattle.text.proofs.Printings.{body_ready, printed}
 use Rattle.text.proofs.print_pattern.Goals as goal
-use Rattle.text.proofs.print_pattern.Goals.{In-Sound}
+use Rattle.text.proofs.print_pattern.Goals.{In_ok-check_body}
 
-bytes_are : (c : In-Sound) → Bytes c.args.body.now
+bytes_are : (c : In_ok-check_body) → Bytes c.args.body.now
 bytes_are c = λ k. omega (arith, c.type_inv.body k)
 
-pub write_tree-begin-requires : goal.write_tree-begin-requires
-write_tree-begin-requires c = body_ready _ (bytes_are (goal.at.write_tree-begin-requires c).In-Sound) (sym c.in-Sound.ensures)
+sound : (c : In_ok-check_body) → check_of argument_bytes c.args.body.now ≡ Ok tt
+sound c = sym c.in_ok-check_body.ensures
 
-pub overflow_sub-need : goal.overflow_sub-need
-overflow_sub-need c =
-    begin_inside _ (bytes_are (goal.at.overflow_sub-need c).In-Sound) (sym c.in-Sound.ensures) c.write_tree-begin.ensures
+pub write_tree-requires : goal.write_tree-requires
+write_tree-requires c =
+    let at = (goal.at.write_tree-requires c).In_ok-check_body in
+    body_ready _ (bytes_are at) (sound at)
 
-pub returns-then-text-need : goal.returns-then-text-need
-returns-then-text-need c =
-    let b = bytes_are (goal.at.returns-then-text-need c).In-Sound in
-    (room (no_room _ b (sym c.in-Sound.ensures) c.write_tree-begin.ensures _ (omega arith)), refl)
+pub returns-in_err-check_body : goal.returns-in_err-check_body
+returns-in_err-check_body c =
+    let p = err_from_is_err_and c.from_residual.result c.from_residual.ensures.1 in
+    rw (p.1, p.2) (unsound (record { unsound = sym c.in_err-check_body.ensures }), refl)
 
-pub slice_bounds-copy-count : goal.slice_bounds-copy-count
-slice_bounds-copy-count c =
-    begin_inside _ (bytes_are (goal.at.slice_bounds-copy-count c).In-Sound) (sym c.in-Sound.ensures) c.write_tree-begin.ensures
-
-pub slice_bounds-copy-start : goal.slice_bounds-copy-start
-slice_bounds-copy-start c =
-    begin_inside _ (bytes_are (goal.at.slice_bounds-copy-start c).In-Sound) (sym c.in-Sound.ensures) c.write_tree-begin.ensures
-
-pub slice_bounds-copy-end : goal.slice_bounds-copy-end
-slice_bounds-copy-end c =
-    let m = made_length _ (bytes_are (goal.at.slice_bounds-copy-end c).In-Sound) (sym c.in-Sound.ensures) c.write_tree-begin.ensures in
-    omega arith
-
-pub returns-in-Refused : goal.returns-in-Refused
-returns-in-Refused c = (unsound (record { unsound = sym c.in-Refused.ensures }), refl)
-
-pub returns-else-text-need : goal.returns-else-text-need
-returns-else-text-need c =
-    let b = bytes_are (goal.at.returns-else-text-need c).In-Sound in
-    all_printed _ b (sym c.in-Sound.ensures) c.write_tree-begin.ensures _ _ _ (omega arith) refl c.copy.ensures
+pub returns : goal.returns
+returns c =
+    let at = (goal.at.returns c).In_ok-check_body in
+    printed _ (bytes_are at) (sound at) (rw c.new-made.ensures at c.write_tree.ensures) _ _ _ _ (rw c.written.ensures at c.copy_if_room.ensures) c.map_err.ensures.cases

@@ -1,10 +1,15 @@
 -- `watch::take_read` meets its contract. Assumes nothing.
-use Rattle.watch.proofs.Givens.{read_failed_holds, read_some}
+use Prim.Native.Nat.{◌-◌, min}
+use mathlib.Core.Path.{◌≡◌, refl}
+use native.Mathlib.Omega.{arith}
+use lib.ListN.{length}
+use Rattle.watch.specs.Watch.ReadTaken.{some, failed}
 use Rattle.watch.proofs.take_read.Goals as goal
 
-pub returns-then-got-lt0 : goal.returns-then-got-lt0
-returns-then-got-lt0 c = read_failed_holds c.args.got c.ranges.got c.if-got-lt0.true
+pub returns-in-Err : goal.returns-in-Err
+returns-in-Err c = failed c.in-Err.is refl refl refl
 
-pub returns : goal.returns
-returns c =
-    read_some c.args.got c.ranges.got c.if-got-lt0.false c.min-n.ensures c.take_chunk.ensures
+pub returns-in-Ok : goal.returns-in-Ok
+returns-in-Ok c =
+    let n : c.min.result - 0 ≡ min c.in-Ok.n (length c.args.buffer.now) = omega (arith, c.min.ensures) in
+    some c.in-Ok.is (rw n at c.take_chunk.ensures)

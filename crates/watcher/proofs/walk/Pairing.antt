@@ -16,7 +16,7 @@ use Rattle.cell.proofs.Sizes.{is_cell_of_words}
 use Rattle.cell.proofs.Steps.{step_answered}
 use Rattle.cell.proofs.StartLaws.{cell_starts_fit, push_answered}
 use Rattle.cell.proofs.WordLaws.{length_after, length_cell_starts, length_starts_after}
-use Rattle.watcher.specs.inner.Step.{segment, over, own_from, PairReady, PairDone}
+use Rattle.watcher.specs.inner.Step.{segment, over, own_from, Placed, Replaces}
 
 -- the left operand's starts come first
 pub starts_after_own : (op : Op) (xs ys c : List ℕ) → starts_after op xs ys c ≡ xs ++ starts_after op [] ys c
@@ -55,7 +55,7 @@ own_end Without b top c h l = refl
 own_end Chain b top c h l = omega (arith, length_cell_starts c (top - b) l)
 
 -- n words of the cell
-module _ {op : Op} {s answers base starts : List ℕ} {d at t : ℕ} (p : PairReady op s answers base starts d at t)
+module _ {op : Op} {s answers base starts : List ℕ} {d at t : ℕ} (p : Placed op s answers base starts d at t)
     (n : ℕ) (q : n ≡ cell_words op (get_or base (d + 1) 0 - get_or base d 0)) where
   abbrev ys : List ℕ
   ys = segment base starts d
@@ -117,7 +117,7 @@ module _ {op : Op} {s answers base starts : List ℕ} {d at t : ℕ} (p : PairRe
     module _ {f : ℕ} (o : f ≡ own_from op (get_or base d 0) (get_or base (d + 1) 0)) where
       pub pair_done : {starts' : List ℕ} {r : ℕ}
           → PushAnswers op (take (at + n - at) (drop at (put_mid at (at + n - at) s new))) starts f starts' r
-          → PairDone op s answers base starts d at t (put_mid at (at + n - at) s new) (set answers (d - 1) a) (set base d r) starts' (at + n)
+          → Replaces op s answers base starts d at t (put_mid at (at + n - at) s new) (set answers (d - 1) a) (set base d r) starts' (at + n)
       pair_done {starts'} {r} g =
           let x : ℕ = get_or answers (d - 1) 0 in
           let y : ℕ = get_or answers d 0 in

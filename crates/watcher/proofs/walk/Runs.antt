@@ -26,6 +26,7 @@ use Rattle.body.proofs.Bodies.{length_by}
 use Rattle.cell.specs.Cell.{cell_words}
 use Rattle.watcher.specs.State.{header, count_of, cells, InForm}
 use Rattle.watcher.specs.inner.Walk.{Value, Cells, entry_in, tick_m, ticked}
+use Rattle.watcher.specs.inner.Step.{starts_on}
 use Rattle.watcher.proofs.Cells.{left, right, own, cells_ahead, form_left, form_right, length_own}
 use Rattle.watcher.proofs.Starts.{padded, length_padded}
 use Rattle.watcher.proofs.States.{entries_read, cells_from}
@@ -40,11 +41,6 @@ Ready (Pair op) (y ∷ x ∷ st) ahead = cell_words op (length y.1) ≤ length a
 Ready (Within n) [] ahead = ⊥
 Ready (Within n) (x ∷ st) ahead = n < 256 ^ argument_bytes
 Ready Wrong st ahead = ⊥
-
--- how many possible starts the stack holds
-unfoldable pub starts_on : List Value → ℕ
-starts_on [] = 0
-starts_on (v ∷ st) = length v.1 + starts_on st
 
 -- an answer at t
 abbrev pub Small : ℕ → Value → Type 0

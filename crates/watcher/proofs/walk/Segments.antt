@@ -10,8 +10,7 @@ use borrow.Author.Count.{below_more}
 use Rattle.body.specs.inner.Stack.{stack_by}
 use Rattle.body.proofs.Stacks.{stack_ext, stack_push, stack_pop}
 use Rattle.watcher.specs.inner.Walk.{Value}
-use Rattle.watcher.specs.inner.Step.{segment, over}
-use Rattle.watcher.proofs.walk.Runs.{starts_on}
+use Rattle.watcher.specs.inner.Step.{segment, over, value_at, values, Laid, starts_on}
 
 part_front : (a n : ℕ) (p q : List ℕ) → a + n ≤ length p → take n (drop a (p ++ q)) ≡ take n (drop a p)
 part_front a n p q h = ap (take n) (drop-append-le a p q (omega arith)) ∙ take-append-le n (drop a p) q (omega (arith, length-drop a p))
@@ -48,23 +47,6 @@ module _ (b : ℕ) (c s : List ℕ) where
         length-take-le b s (omega arith),
         length-drop (b + length c) s,
       )
-
--- what stands at a place
-abbrev pub value_at : List ℕ → List ℕ → List ℕ → ℕ → Value
-value_at answers base starts k = (get_or answers k 0, segment base starts k)
-
-abbrev pub values : List ℕ → List ℕ → List ℕ → ℕ → List Value
-values answers base starts d = stack_by (value_at answers base starts) d
-
--- d places are in use, of so many; and there is room for so many possible starts
-pub record Laid (deep many : ℕ) (answers base starts : List ℕ) (d : ℕ) : Type 0 where
-  pub answers_long : length answers ≡ deep
-  pub base_long : length base ≡ deep + 1
-  pub starts_long : length starts ≡ many
-  pub low : d ≤ deep
-  pub first : get_or base 0 0 ≡ 0
-  pub rises : (k : ℕ) → k < d → get_or base k 0 ≤ get_or base (k + 1) 0
-  pub few : get_or base d 0 ≤ many
 
 module _ {deep many : ℕ} {answers base starts : List ℕ} {d : ℕ} (x : Laid deep many answers base starts d) where
   base_from : (k n : ℕ) → k + n ≤ d → get_or base k 0 ≤ get_or base (k + n) 0
@@ -108,6 +90,7 @@ module _ {deep many : ℕ} {answers base starts : List ℕ} {d : ℕ} (x : Laid 
       answers_long = length-set answers d v ∙ x.answers_long;
       base_long = length-set base (d + 1) (get_or base d 0) ∙ x.base_long;
       starts_long = x.starts_long;
+      most = x.most;
       low = omega arith;
       first = below 0 (omega arith) ∙ x.first;
       rises = λ k h.
@@ -135,6 +118,7 @@ module _ {deep many : ℕ} {answers base starts : List ℕ} {d : ℕ} (x : Laid 
       answers_long = length-set answers (d - 1) v ∙ x.answers_long;
       base_long = x.base_long;
       starts_long = x.starts_long;
+      most = x.most;
       low = x.low;
       first = x.first;
       rises = x.rises;
@@ -183,6 +167,7 @@ module _ {deep many : ℕ} {answers base starts : List ℕ} {D : ℕ} (x : Laid 
       answers_long = length-set answers (D - 1) v ∙ x.answers_long;
       base_long = length-set base D (get_or base D 0 + length own) ∙ x.base_long;
       starts_long = length_over (get_or base D 0) own starts (omega (arith, x.starts_long)) ∙ x.starts_long;
+      most = x.most;
       low = omega (arith, x.low);
       first = under 0 (omega arith) ∙ x.first;
       rises = λ k h.

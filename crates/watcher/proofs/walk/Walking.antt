@@ -20,10 +20,11 @@ use Rattle.cell.proofs.WordLaws.{length_after}
 use Rattle.watcher.specs.State.{header, count_of, next_of, InForm}
 use Rattle.watcher.specs.inner.Walk.{Value, Cells, entry_in, tick_pair, letter_answer, within_answer, tick_m}
 use Rattle.watcher.specs.inner.Walk.{formed, ticked, last_answer, answer_of, words_after}
+use Rattle.watcher.specs.inner.Step.{starts_on}
 use Rattle.watcher.proofs.Entries.{run_step}
 use Rattle.watcher.proofs.States.{next_word, state_long}
 use Rattle.watcher.proofs.Judges.{formed_exactly}
-use Rattle.watcher.proofs.walk.Runs.{Ready, starts_on, Stands, Runs, runs_start, walk_start, turn_stands, turn_ready, turn_runs}
+use Rattle.watcher.proofs.walk.Runs.{Ready, Stands, Runs, runs_start, walk_start, turn_stands, turn_ready, turn_runs}
 use Rattle.watcher.proofs.walk.Runs.{ready_pair, ready_within, stands_low, stands_few}
 use Rattle.watcher.proofs.walk.Places.{Held, held_start, held_ahead, held_length, held_entry, held_put, held_end}
 use Rattle.watcher.proofs.Calls.{ticked_in_form}

@@ -1,7 +1,7 @@
 -- The walks over entries, as machines: a body's room, a state's form judged, and a tick; and the words that opening and a tick leave.
 -- Of these a public call cites `extent` alone; specs/Claim says what it means. Assumes nothing: these are definitions.
-use Rattle.std.specs.Prelude.{Bool, true, false, cond, List, [], ◌∷◌, ◌++◌, ℕ, suc, ◌+◌, ◌-◌, ◌/◌, ◌%◌, leb, length, get_or, take, drop, set, replicate}
-use Rattle.std.proofs.Math.Option.{Option, none, some}
+use Rattle.std.specs.Prelude.{Bool, true, false, cond, List, [], ◌∷◌, ◌++◌, ℕ, suc, ◌+◌, ◌-◌, ◌/◌, ◌%◌, leb, length, get_or, take, drop, set, replicate, Option, None, Some}
+use Rattle.std.specs.Option.{is_some}
 use Rattle.std.proofs.Math.Decide.{dec_le, ℕ_discrete}
 use Rattle.rules.specs.declared.Op.{Op}
 use Rattle.rules.specs.Bits.{bit}
@@ -47,11 +47,11 @@ entry_in s i = entry_of argument_bytes (get_or s (i + header) 0 % 256) (get_or s
 -- the words of a cell judged: those after it, or none if they are too few or not in form
 unfoldable pub judge_cell : ℕ → Op → ℕ → List ℕ → Option (List ℕ)
 judge_cell τ op y ahead =
-    cond (leb (cell_words op y) (length ahead)) (cond (cell_fits τ op (take (cell_words op y) ahead)) (some (drop (cell_words op y) ahead)) none) none
+    cond (leb (cell_words op y) (length ahead)) (cond (cell_fits τ op (take (cell_words op y) ahead)) (Some (drop (cell_words op y) ahead)) None) None
 
 abbrev pub on_ahead : Option (List ℕ) → (List ℕ → Option (List ℕ)) → Option (List ℕ)
-on_ahead none go = none
-on_ahead (some ahead) go = go ahead
+on_ahead None go = None
+on_ahead (Some ahead) go = go ahead
 
 -- p on the stack, and the words not yet judged
 abbrev pub judge_m : ℕ → Machine
@@ -64,17 +64,13 @@ judge_m τ =
       on_within = λ n x g. (x, g);
     }
 
-abbrev pub is_some : Option (List ℕ) → Bool
-is_some none = false
-is_some (some l) = true
-
 abbrev pub is_none : Option ℕ → Bool
-is_none none = true
-is_none (some i) = false
+is_none None = true
+is_none (Some i) = false
 
 -- the words beyond the cells of a state, or none if a cell is not in form
 unfoldable pub judged : List ℕ → Option (List ℕ)
-judged s = (run (judge_m (next_of s)) (entries_by (entry_in s) 0 (count_of s)) [] (some (drop (header + count_of s) s))).1
+judged s = (run (judge_m (next_of s)) (entries_by (entry_in s) 0 (count_of s)) [] (Some (drop (header + count_of s) s))).1
 
 -- the state is in form, computed: the number of entries, their words, a sound body, the next tick, and every cell
 unfoldable pub formed : List ℕ → Bool
@@ -83,14 +79,14 @@ formed s =
     (cond (is_none (scan (entries_by (entry_in s) 0 (count_of s)) 0 0)) (cond (leb (next_of s) ticks)
     (is_some (judged s)) false) false) false) false) false
 
--- where the words of a state end, of n words in all, by those beyond them: 0 for none
-abbrev pub end_by : ℕ → Option (List ℕ) → ℕ
-end_by n none = 0
-end_by n (some l) = n - length l
+-- where the words of a state end, of n words in all, by those beyond them
+abbrev pub end_by : ℕ → Option (List ℕ) → Option ℕ
+end_by n None = None
+end_by n (Some l) = Some (n - length l)
 
--- the number of a state's words, 0 if it is not in form
-unfoldable pub extent : List ℕ → ℕ
-extent s = cond (formed s) (end_by (length s) (judged s)) 0
+-- the number of a state's words, none if it is not in form
+unfoldable pub extent : List ℕ → Option ℕ
+extent s = cond (formed s) (end_by (length s) (judged s)) None
 
 -- on the stack: an answer, and the possible starts, as many as p
 abbrev pub Value : Type 0

@@ -1,14 +1,8 @@
 -- `watching::act` meets its contract, by the answer. Assumes nothing.
+use mathlib.Core.Path.{ap, ◌∙◌}
+use Rattle.std.specs.Prelude.{Ok}
 use Rattle.watching.proofs.Takings.{is_silent, acted_by}
 use Rattle.watching.proofs.act.Goals as goal
 
-pub returns-in-Nothing : goal.returns-in-Nothing
-returns-in-Nothing c = acted_by c.in-Nothing.is (is_silent _ _ _ c.next_run.ensures)
-
-pub returns-in-Window : goal.returns-in-Window
-returns-in-Window c =
-    acted_by c.in-Window.is c.take_window.ensures
-
-pub returns-in-Refused : goal.returns-in-Refused
-returns-in-Refused c =
-    acted_by c.in-Refused.is c.refused.ensures
+pub returns-in-None : goal.returns-in-None
+returns-in-None c = acted_by (c.in-Ok.is ∙ ap Ok c.in-None.is) (is_silent _ _ _ c.next_run.ensures)

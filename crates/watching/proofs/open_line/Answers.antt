@@ -1,30 +1,19 @@
--- `watching::open_line` meets its contract: the text read is the part of the body that the state is opened with. Assumes nothing.
-use mathlib.Core.Path.{refl, subst}
-use native.Mathlib.Omega.{arith}
-use Rattle.text.specs.Answer.{ReadingOf}
-use Rattle.watcher.specs.declared.Opening.TheVariants as Opens
-use Rattle.watcher.specs.Answer.{OpenAnswers}
+-- `watching::open_line` meets its contract: the text is read, and then the state opened for its body. Assumes nothing.
+use mathlib.Core.Path.{refl}
+use Rattle.std.proofs.lemmas.Result.{err_from_is_err_and}
 use Rattle.watching.specs.Answer.FirstLine.{unread, unopened, opened}
-use Rattle.watching.proofs.Takings.{part_opened}
+use Rattle.watching.proofs.Takings.{part_first}
 use Rattle.watching.proofs.open_line.Goals as goal
 
-pub slice_bounds-open-end : goal.slice_bounds-open-end
-slice_bounds-open-end c =
-    let read = subst (ReadingOf _ _ _) c.in-Read.is c.read_pattern-reading.ensures in
-    omega (arith, read.fits)
+pub returns-in_err-bytes : goal.returns-in_err-bytes
+returns-in_err-bytes c =
+    let p = err_from_is_err_and c.from_residual.result c.from_residual.ensures.1 in
+    rw (p.1, p.2) (unread c.in_err-bytes.ensures refl)
 
-pub returns-in-Refused : goal.returns-in-Refused
-returns-in-Refused c =
-    unread (subst (ReadingOf _ _ _) c.in-Refused.is c.read_pattern-reading.ensures) refl
+pub returns-in_err-open : goal.returns-in_err-open
+returns-in_err-open c =
+    let p = err_from_is_err_and c.from_residual-in_err-open.result c.from_residual-in_err-open.ensures.1 in
+    rw (p.1, p.2) (unopened c.in_ok-bytes.ensures (rw (part_first c.in_ok-bytes.bytes c.read_pattern.new.body) at c.in_err-open.ensures))
 
-pub returns-in-Opened : goal.returns-in-Opened
-returns-in-Opened c =
-    opened (subst (ReadingOf _ _ _) c.in-Read.is c.read_pattern-reading.ensures)
-    (part_opened c.in-Read.bytes c.read_pattern-reading.new.body _ _ Opens.Opened
-    (subst (OpenAnswers _ _ _) c.in-Opened.is c.«open».ensures))
-
-pub returns-in-Refused-open : goal.returns-in-Refused-open
-returns-in-Refused-open c =
-    unopened (subst (ReadingOf _ _ _) c.in-Read.is c.read_pattern-reading.ensures)
-    (part_opened c.in-Read.bytes c.read_pattern-reading.new.body _ _ (Opens.Refused _)
-    (subst (OpenAnswers _ _ _) c.in-Refused-open.is c.«open».ensures))
+pub returns : goal.returns
+returns c = opened c.in_ok-bytes.ensures (rw (part_first c.in_ok-bytes.bytes c.read_pattern.new.body) at c.in_ok-open.ensures)

@@ -4,5 +4,5 @@ use Rattle.watching.proofs.refused.Goals as goal
 
 pub returns : goal.returns
 returns c =
-    is_refused _ _ _ c.requires _ _ _ _ c.write_refused.result c.next_line-number.ensures c.number.ensures
-    c.write_refused.ensures c.bytes_in-written.ensures
+    is_refused _ _ _ c.requires _ _ _ _ c.write_refused.result c.saturating_add-line.ensures c.number.ensures
+    c.write_refused.ensures c.unwrap_or.ensures

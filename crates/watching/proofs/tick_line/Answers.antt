@@ -1,25 +1,21 @@
 -- `watching::tick_line` meets its contract: the line is read, and then the state takes its tick. Assumes nothing.
-use mathlib.Core.Path.{refl, subst}
-use Rattle.line.specs.Answer.{LineReadOf}
-use Rattle.watcher.specs.Answer.{TickAnswers}
+use mathlib.Core.Path.{refl}
+use Rattle.std.proofs.lemmas.Result.{err_from_is_err_and}
 use Rattle.watching.specs.Answer.FurtherLine.{unread, unticked, window, nothing}
 use Rattle.watching.proofs.tick_line.Goals as goal
 
-pub returns-in-Refused : goal.returns-in-Refused
-returns-in-Refused c =
-    unread (subst (LineReadOf _) c.in-Refused.is c.read_tick.ensures) refl
+pub returns-in_err-tick : goal.returns-in_err-tick
+returns-in_err-tick c =
+    let p = err_from_is_err_and c.from_residual.result c.from_residual.ensures.1 in
+    rw (p.1, p.2) (unread c.in_err-tick.ensures refl)
 
-pub returns-in-Window : goal.returns-in-Window
-returns-in-Window c =
-    window (subst (LineReadOf _) c.in-Tick.is c.read_tick.ensures)
-    (subst (TickAnswers _ _ _ _) c.in-Window.is c.tick.ensures)
+pub returns-in_err-start : goal.returns-in_err-start
+returns-in_err-start c =
+    let p = err_from_is_err_and c.from_residual-in_err-start.result c.from_residual-in_err-start.ensures.1 in
+    rw (p.1, p.2) (unticked c.in_ok-tick.ensures c.in_err-start.ensures)
 
-pub returns-in-Nothing : goal.returns-in-Nothing
-returns-in-Nothing c =
-    nothing (subst (LineReadOf _) c.in-Tick.is c.read_tick.ensures)
-    (subst (TickAnswers _ _ _ _) c.in-Nothing.is c.tick.ensures)
+pub returns-in-Some : goal.returns-in-Some
+returns-in-Some c = window c.in_ok-tick.ensures (rw c.in-Some.is at c.in_ok-start.ensures)
 
-pub returns-in-Refused-tick : goal.returns-in-Refused-tick
-returns-in-Refused-tick c =
-    unticked (subst (LineReadOf _) c.in-Tick.is c.read_tick.ensures)
-    (subst (TickAnswers _ _ _ _) c.in-Refused-tick.is c.tick.ensures)
+pub returns-in-None : goal.returns-in-None
+returns-in-None c = nothing c.in_ok-tick.ensures (rw c.in-None.is at c.in_ok-start.ensures)

@@ -1,17 +1,15 @@
 -- What the functions that take many ticks at once promise each other; no public call cites these. Assumes nothing: these are definitions.
-use Rattle.std.specs.Prelude.{ℕ, zero, suc, ◌+◌, ◌-◌, ◌*◌, ◌^◌, ◌<◌, ◌≤◌, ◌≡◌, List, [], ◌∷◌, ◌++◌, length, get_or, take, drop}
+use Rattle.std.specs.Prelude.{ℕ, zero, suc, ◌+◌, ◌-◌, ◌*◌, ◌^◌, ◌<◌, ◌≤◌, ◌≡◌, List, [], ◌∷◌, ◌++◌, length, get_or, take, drop, Ok, Some, None, Option}
 use Rattle.rules.specs.Limits.{ticks}
 use Rattle.line.specs.Lines.{most_written}
 use Rattle.line.specs.Answer.{IsTick, IsWritten}
 use Rattle.watching.specs.declared.Run.{Run}
 use Rattle.watching.specs.declared.Taken.{Taken}
-use Rattle.watching.specs.declared.batch.Found.{Found}
-use Rattle.watching.specs.declared.batch.Found.TheVariants.{Tick, Other}
 use Rattle.watching.specs.declared.batch.Gathered.{Gathered}
-use Rattle.watching.specs.declared.LineAnswer.{LineAnswer}
-use Rattle.watching.specs.declared.LineAnswer.TheVariants.{Nothing, Window}
 use Rattle.watching.specs.Answer.{Acted}
 use Rattle.watching.specs.inner.Progress.{line_length, LineEnds}
+use Rattle.watching.specs.Answer.{LineAnswer}
+use Rattle.watching.specs.declared.batch.Found.{Found}
 
 -- the number of lines read at once
 abbrev pub most_ticks : ℕ
@@ -29,9 +27,9 @@ pub record IsFound (input : List ℕ) (from t w end : ℕ) : Type 0 where
   pub read : IsTick (take (end - from) (drop from input)) t w
 
 -- what is found from a place on: nothing is promised of a line that is not a tick's
-abbrev pub FoundAt : List ℕ → ℕ → Found → Type 0
-FoundAt input from (Tick t w end) = IsFound input from t w end
-FoundAt input from Other = Unit {0}
+abbrev pub FoundAt : List ℕ → ℕ → Option Found → Type 0
+FoundAt input from (Some f) = IsFound input from f.tick.t f.tick.events f.end
+FoundAt input from None = Unit {0}
 
 -- a line may end at `end`: there is a line feed, or the end of the input
 pub record MayEnd (input : List ℕ) (from end : ℕ) : Type 0 where
@@ -61,8 +59,8 @@ pub record FarFromFull (run : Run) : Type 0 where
 
 -- the answer to a tick t: 0 for none, or start + 1 of the window that ends there
 abbrev pub answer_at : ℕ → ℕ → LineAnswer
-answer_at t zero = Nothing
-answer_at t (suc start) = Window start t
+answer_at t zero = Ok None
+answer_at t (suc start) = Ok (Some (start, t))
 
 -- ticks reported by their answers, one after the other; none is refused
 pub data AllReported : Run → List ℕ → List ℕ → Run → List ℕ → Type 0 where

@@ -2,7 +2,7 @@ use mathlib.Core.Path.{refl, ◌∙◌}
 use native.Mathlib.Omega.{arith}
 use lib.ListN.{drop}
 use Rattle.cell.specs.Pairs.{spans_from}
-use Rattle.cell.proofs.Choosing.{gather_begin, gather_turn, gather_done, insert_ready}
+use Rattle.cell.proofs.Choosing.{gather_begin, gather_turn, insert_ready}
 use Rattle.cell.proofs.kept.gather_pairs.Goals as goal
 
 pub loop-i-init : goal.loop-i-init
@@ -25,11 +25,3 @@ loop-i-preserved c =
           ∙ gather_turn (spans_from h.cell.now 0 h.pairs) h.starts.now c.loop-i.i _ _ (omega arith) (omega arith)
           c.choose_pair.ensures c.loop-i.invariant.2,
     )
-
-pub returns : goal.returns
-returns c =
-    let h = c.args in
-    record {
-      pairs = c.loop-i.invariant.2 ∙ gather_done (spans_from h.cell.now 0 h.pairs) h.starts.now c.loop-i.i (omega arith);
-      most = omega arith;
-    }

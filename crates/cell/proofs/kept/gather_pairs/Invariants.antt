@@ -10,6 +10,3 @@ use Rattle.cell.proofs.kept.gather_pairs.Given as goal
 abbrev pub invariant-loop-i : goal.invariant-loop-i
 invariant-loop-i l =
     (l.count + l.i ≤ length l.starts) × (length l.kept ≡ length l.initial.kept) × (spans_from l.kept 0 l.count ≡ gather (spans_from l.cell 0 l.pairs) (drop l.i l.starts))
-
-abbrev pub decreases-loop-i : goal.decreases-loop-i
-decreases-loop-i l = l.i

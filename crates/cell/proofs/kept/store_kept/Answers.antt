@@ -1,16 +1,7 @@
-use mathlib.Core.Path.{refl}
 use native.Mathlib.Omega.{arith}
 use lib.ListN.{length-set}
-use lib.Seq.{paste-zero}
-use Rattle.cell.specs.Calls.{new_words}
 use Rattle.cell.proofs.KeptLaws.{store_word, store_end}
-use Rattle.std.proofs.Common.{rules}
 use Rattle.cell.proofs.kept.store_kept.Goals as goal
-
-pub loop-i-init : goal.loop-i-init
-loop-i-init c =
-    let h = c.args in
-    (search rules, refl, paste-zero h.cell.now 2 (new_words h.cell.now h.kept.now h.count))
 
 pub loop-i-preserved : goal.loop-i-preserved
 loop-i-preserved c = (

@@ -1,7 +1,7 @@
 -- `cell::store_kept` meets its contract. The loop's invariant: the first i of the new words stand after latest.
 -- Assumes nothing.
 use mathlib.Core.Path.{◌≡◌}
-use Prim.Native.Nat.{◌+◌, ◌-◌, ◌≤◌}
+use Prim.Native.Nat.{◌+◌, ◌≤◌}
 use lib.ListN.{length}
 use lib.Seq.{paste}
 use Rattle.cell.specs.Calls.{new_words}
@@ -10,6 +10,3 @@ use Rattle.cell.proofs.kept.store_kept.Given as goal
 abbrev pub invariant-loop-i : goal.invariant-loop-i
 invariant-loop-i l =
     (l.i + 2 ≤ length l.initial.cell) × (length l.cell ≡ length l.initial.cell) × (l.cell ≡ paste l.initial.cell 2 (new_words l.initial.cell l.kept l.count) l.i)
-
-abbrev pub decreases-loop-i : goal.decreases-loop-i
-decreases-loop-i l = length l.initial.cell - l.i

@@ -1,6 +1,6 @@
 use mathlib.Core.Path.{sym, ◌∙◌}
 use native.Mathlib.Omega.{arith}
-use Rattle.cell.proofs.Choosing.{choose_none, choose_turn, choose_done}
+use Rattle.cell.proofs.Choosing.{choose_none, choose_turn}
 use Rattle.std.proofs.Common.{rules}
 use Rattle.cell.proofs.pair.choose_pair.Goals as goal
 
@@ -15,8 +15,3 @@ loop-i-preserved c =
           ∙ choose_turn h.cell.now h.pairs c.loop-i.i h.start _ _ (omega arith) (omega arith) c.pair_at.ensures
           c.loop-i.invariant.1,
     )
-
-pub returns : goal.returns
-returns c =
-    let h = c.args in
-    choose_done h.cell.now h.pairs c.loop-i.i h.start _ (omega arith) c.loop-i.invariant.1

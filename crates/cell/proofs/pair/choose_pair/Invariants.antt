@@ -9,6 +9,3 @@ use Rattle.cell.proofs.pair.choose_pair.Given as goal
 abbrev pub invariant-loop-i : goal.invariant-loop-i
 invariant-loop-i l =
     (l.i ≤ l.pairs) × (span_of l.chosen ≡ choose (spans_from l.cell (2 * l.i) (l.pairs - l.i)) l.start)
-
-abbrev pub decreases-loop-i : goal.decreases-loop-i
-decreases-loop-i l = l.i

@@ -1,5 +1,8 @@
-use Prim.Native.Nat.{◌*◌}
+use mathlib.Core.Path.{◌≡◌, subst}
+use Prim.Native.Nat.{◌*◌, ◌/◌}
+use lib.ListN.{length}
 use native.Mathlib.Omega.{arith}
+use Rattle.cell.specs.Calls.{PairsIn}
 use Rattle.cell.proofs.Choosing.{counted_first, counted_more, counted_all}
 use Rattle.cell.proofs.Pairs.{kept_stop, kept_end}
 use Rattle.std.proofs.Common.{rules}
@@ -21,4 +24,6 @@ loop-pairs-preserved c =
 pub returns : goal.returns
 returns c =
     let h = c.args.cell.now in
-    counted_all h c.loop-pairs.pairs (omega arith) (kept_end h (2 * c.loop-pairs.pairs) c.loop-pairs-test.false) c.loop-pairs.invariant.1
+    let n = c.loop-pairs.pairs in
+    let all : n ≡ length h / 2 = omega arith in
+    subst (PairsIn h) all (counted_all h n (omega arith) (kept_end h (2 * n) (omega arith)) c.loop-pairs.invariant.1)

@@ -1,8 +1,7 @@
 -- `cell::push_both` meets its contract: two stores side by side, where there is room for them. Assumes nothing.
 use mathlib.Core.Path.{sym, ◌∙◌}
 use Prim.Native.Nat.{◌+◌, ◌≤◌}
-use native.Mathlib.Omega.{arith}
-use lib.ListN.{length, length-set}
+use lib.ListN.{length}
 use borrow.Author.Tests.{leb-true}
 use Rattle.cell.proofs.StartLaws.{push_two, push_answers, push_left, both_starts_fit, both_starts_not}
 use Rattle.cell.proofs.starts.push_both.Goals as goal
@@ -13,24 +12,6 @@ room c = leb-true _ _ (sym c.has_room.ensures ∙ c.if-has_room.true)
 
 pub returns-then-cell-ne4 : goal.returns-then-cell-ne4
 returns-then-cell-ne4 c = push_left _ _ _ _ (both_starts_not _ _ _ c.if-cell-ne4.true)
-
-pub offset_bounds-starts-at : goal.offset_bounds-starts-at
-offset_bounds-starts-at c = omega (arith, room (goal.at.offset_bounds-starts-at c).Then-has_room)
-
-pub bounds-starts-at : goal.bounds-starts-at
-bounds-starts-at c = omega (arith, room (goal.at.bounds-starts-at c).Then-has_room)
-
-pub overflow_add-starts : goal.overflow_add-starts
-overflow_add-starts c = omega (arith, room (goal.at.overflow_add-starts c).Then-has_room)
-
-pub offset_bounds-starts-at-then-has_room : goal.offset_bounds-starts-at-then-has_room
-offset_bounds-starts-at-then-has_room c = omega (arith, room (goal.at.offset_bounds-starts-at-then-has_room c).Then-has_room)
-
-pub bounds-starts-at-then-has_room : goal.bounds-starts-at-then-has_room
-bounds-starts-at-then-has_room c = simp length-set (omega (arith, room (goal.at.bounds-starts-at-then-has_room c).Then-has_room))
-
-pub overflow_add-result : goal.overflow_add-result
-overflow_add-result c = omega (arith, room (goal.at.overflow_add-result c).Then-has_room)
 
 pub returns-then-has_room : goal.returns-then-has_room
 returns-then-has_room c =

@@ -1,15 +1,9 @@
-use mathlib.Core.Path.{refl}
+use mathlib.Core.Path.{◌≡◌}
+use Prim.Native.Nat.{◌-◌, ◌/◌}
 use native.Mathlib.Omega.{arith}
-use lib.ListN.{length-set}
-use lib.Seq.{paste-zero}
-use Rattle.rules.specs.declared.Op.TheVariants.{Chain}
-use Rattle.cell.specs.Cell.{cell_starts}
+use lib.ListN.{length, length-set}
 use Rattle.cell.proofs.StartLaws.{push_kept, push_latest}
-use Rattle.std.proofs.Common.{rules}
 use Rattle.cell.proofs.starts.put_chain.Goals as goal
-
-pub loop-i-init : goal.loop-i-init
-loop-i-init c = (search rules, refl, paste-zero c.args.starts.now c.args.at (cell_starts Chain c.args.cell.now))
 
 pub loop-i-preserved : goal.loop-i-preserved
 loop-i-preserved c = (
@@ -21,5 +15,7 @@ loop-i-preserved c = (
 
 pub returns : goal.returns
 returns c =
-    push_latest c.args.cell.now c.args.starts.now c.args.at c.requires.0 c.requires.1 c.loop-i.starts c.loop-i.i (omega arith)
-    c.loop-i.invariant.2
+    let h = c.args in
+    let i = c.loop-i.i in
+    let kept : length h.cell.now / 2 - 1 ≡ i = omega arith in
+    rw kept (push_latest h.cell.now h.starts.now h.at c.requires.0 c.requires.1 c.loop-i.starts i (omega arith) c.loop-i.invariant.2)

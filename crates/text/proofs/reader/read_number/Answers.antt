@@ -5,27 +5,25 @@ use Rattle.text.proofs.reader.read_number.Goals as goal
 pub returns-then-at-text : goal.returns-then-at-text
 returns-then-at-text c = bad_end _ _ (omega arith)
 
-pub returns-then-d-gt9 : goal.returns-then-d-gt9
-returns-then-d-gt9 c = bad_first _ _ (omega arith) (omega arith)
+pub returns-in_default : goal.returns-in_default
+returns-in_default c = bad_first _ _ (omega arith) c.in_default.ensures
 
-pub returns-then-value-eq0 : goal.returns-then-value-eq0
-returns-then-value-eq0 c = value_zero _ _ (omega arith) (omega arith)
+pub returns-then-first-eq0 : goal.returns-then-first-eq0
+returns-then-first-eq0 c = value_zero _ _ _ (omega arith) c.in-Some.ensures (omega arith)
 
 pub loop-end-init : goal.loop-end-init
-loop-end-init c = digits_first _ _ _ (omega arith) c.digit-d.ensures (omega arith) (omega arith)
+loop-end-init c = rw c.from-value.ensures (digits_first _ _ _ (omega arith) c.in-Some.ensures (omega arith))
 
-pub returns-then-e-gt9 : goal.returns-then-e-gt9
-returns-then-e-gt9 c = value_other _ _ _ _ c.loop-end.invariant (omega arith) (omega arith)
+pub returns-in_default-digit : goal.returns-in_default-digit
+returns-in_default-digit c = value_other _ _ _ _ c.loop-end.invariant (omega arith) c.in_default-digit.ensures
 
 pub returns-then-more-gt-LAST_TICK : goal.returns-then-more-gt-LAST_TICK
-returns-then-more-gt-LAST_TICK c =
-    bad_over _ _ _ _ c.loop-end.invariant
-    _ (omega arith) c.digit-e.ensures (omega arith) (omega arith)
+returns-then-more-gt-LAST_TICK c = bad_over _ _ _ _ c.loop-end.invariant _ (omega arith) c.in-Some-digit.ensures (omega arith)
 
 pub loop-end-preserved : goal.loop-end-preserved
 loop-end-preserved c =
-    digits_more _ _ _ _ c.loop-end.invariant
-    _ (omega arith) c.digit-e.ensures (omega arith) (omega arith)
+    rw (c.from.ensures, c.from-in-loop-end.ensures)
+    (digits_more _ _ _ _ c.loop-end.invariant _ (omega arith) c.in-Some-digit.ensures (omega arith))
 
 pub returns : goal.returns
 returns c = value_end _ _ _ _ c.loop-end.invariant (omega arith)

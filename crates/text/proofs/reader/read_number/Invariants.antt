@@ -1,10 +1,6 @@
 -- `text::reader::read_number` meets its contract. The invariant: the digits so far make the number, which is not 0. Assumes nothing.
-use Rattle.std.proofs.Common.{◌-◌, length}
 use Rattle.text.proofs.Numbers.{DigitsRead}
 use Rattle.text.proofs.reader.read_number.Given as goal
 
 abbrev pub invariant-loop-end : goal.invariant-loop-end
 invariant-loop-end l = DigitsRead l.text l.at l.end l.value
-
-abbrev pub decreases-loop-end : goal.decreases-loop-end
-decreases-loop-end l = length l.text - l.end

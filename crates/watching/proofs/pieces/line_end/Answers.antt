@@ -1,14 +1,20 @@
+-- `watching::pieces::line_end` meets its contract: the first line feed of the rest, or its end. Assumes nothing.
+use mathlib.Core.Path.{◌≡◌, ap, ◌∙◌}
+use Prim.Native.Nat.{ℕ, ◌+◌}
 use native.Mathlib.Omega.{arith}
-use Rattle.watching.proofs.TakingBytes.{ends_all, ends_here, ends_later}
+use lib.ListN.{drop}
+use Rattle.std.specs.Prelude.{unwrap_or, length, Option}
+use Rattle.std.proofs.lemmas.List.{take_rest}
+use Rattle.watching.specs.inner.Progress.{line_length}
+use Rattle.watching.proofs.TakingBytes.{feed_found, line_inside}
 use Rattle.watching.proofs.pieces.line_end.Goals as goal
 
-pub returns-then-input-at-eq10 : goal.returns-then-input-at-eq10
-returns-then-input-at-eq10 c =
-    omega (arith, ends_here c.args.input.now c.loop-at.at c.loop-at-test.true c.if-input-at-eq10.true)
-
-pub loop-at-preserved : goal.loop-at-preserved
-loop-at-preserved c =
-    omega (arith, ends_later c.args.input.now c.loop-at.at c.loop-at-test.true c.if-input-at-eq10.false)
-
 pub returns : goal.returns
-returns c = omega (arith, ends_all c.args.input.now c.loop-at.at c.loop-at-test.false)
+returns c =
+    let input = c.args.input.now in
+    let from = c.args.from in
+    let rest = drop from input in
+    let found = rw (take_rest input from) at c.feed.ensures in
+    let place : c.unwrap_or.result ≡ line_length rest =
+    (rw (take_rest input from) at c.unwrap_or.ensures) ∙ ap (λ (o : Option ℕ). unwrap_or o (length rest)) found ∙ feed_found rest in
+    (ap (λ (n : ℕ). from + n) place, omega (arith, place, line_inside input from c.requires))
