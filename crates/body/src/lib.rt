@@ -11,6 +11,7 @@ use refusal::{Fault, Refusal};
 use rules::{ENTRY_BYTES, LAST_TICK, LETTERS, MOST_BODY, Op};
 
 // What an entry stands for: a letter, an operator on two patterns, a restriction; or it breaks a rule by itself.
+// `Wrong` is a kind of entry and no `None`, since `entries` and `RefusedLowest` speak of bodies that have wrong ones.
 #[derive(Clone, Copy, Debug, PartialEq, Eq)]
 pub enum Entry {
     Letter(u64),
@@ -84,7 +85,7 @@ pub fn decode(op: u64, argument: u64) -> Entry
     }
 }
 
-// The op number of an operator.
+// The op number of an operator. It is no `From`, since neither `Op` nor `u64` is of this crate.
 pub fn op_number(op: Op) -> u64
     ensures { result ≡ op_number op }
 {
@@ -96,7 +97,7 @@ pub fn op_number(op: Op) -> u64
     }
 }
 
-// The operator of an op number from 1 to 4.
+// The operator of an op number from 1 to 4; `decode` takes no other.
 fn op_of(op: u64) -> Op
     ensures { result ≡ op_of op }
 {

@@ -45,13 +45,18 @@ fn read(rt: HostRuntime, name: &[u8], pattern: &[u8]) -> io::Result<()> {
 // Prints the text that is printed from what was read.
 fn print(rt: HostRuntime, name: &[u8], pattern: &[u8]) -> io::Result<()> {
     let mut body = [0u8; 315];
-    let bytes = text::read_pattern(pattern, &mut body).unwrap_or(0);
     let mut back = [0u8; 807];
-    let long = match body.get(0..bytes) {
+    let long = match body_of(pattern, &mut body) {
         Some(body) => text::print_pattern(body, &mut back).unwrap_or(0),
         None => 0,
     };
     rt.write_all(name)?;
     show::first(rt, &back, long)?;
     rt.write_all(b"\n")
+}
+
+// The body of a pattern's text, as the first bytes of a slice; the empty body if the text is refused.
+pub(crate) fn body_of<'a>(pattern: &[u8], body: &'a mut [u8]) -> Option<&'a [u8]> {
+    let bytes = text::read_pattern(pattern, body).unwrap_or(0);
+    body.get(0..bytes)
 }

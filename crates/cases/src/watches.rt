@@ -1,5 +1,5 @@
 // The watcher at the edges: the last tick, late ticks, and a state damaged in each of its kinds of word.
-use crate::show;
+use crate::{show, texts};
 use std::io;
 
 pub(crate) fn run(rt: HostRuntime) -> io::Result<()> {
@@ -12,7 +12,7 @@ pub(crate) fn run(rt: HostRuntime) -> io::Result<()> {
 
 fn room_of(rt: HostRuntime, name: &[u8], pattern: &[u8]) -> io::Result<()> {
     let mut body = [0u8; 315];
-    match read(pattern, &mut body) {
+    match texts::body_of(pattern, &mut body) {
         Some(body) => show::answer(rt, name, watcher::room(body)),
         None => Ok(()),
     }
@@ -65,14 +65,14 @@ fn ready(state: &mut [u64]) {
 
 fn open_first(state: &mut [u64]) {
     let mut body = [0u8; 315];
-    if let Some(body) = read(b"((A+B)-(C;(D;E)))", &mut body) {
+    if let Some(body) = texts::body_of(b"((A+B)-(C;(D;E)))", &mut body) {
         let _ = watcher::open(body, state);
     }
 }
 
 fn open(rt: HostRuntime, name: &[u8], pattern: &[u8], state: &mut [u64]) -> io::Result<()> {
     let mut body = [0u8; 315];
-    match read(pattern, &mut body) {
+    match texts::body_of(pattern, &mut body) {
         Some(body) => show::done(rt, name, watcher::open(body, state)),
         None => Ok(()),
     }
@@ -84,10 +84,4 @@ fn tick(rt: HostRuntime, name: &[u8], state: &mut [u64], t: u64, events: u32) ->
         Ok(window) => show::line(rt, name, 0, window.map_or(0, |s| s % (1 << 32) + 1), 0),
         Err(r) => show::refused(rt, name, r),
     }
-}
-
-// The body of a pattern's text, as the first bytes of a slice; the empty body if the text is refused.
-fn read<'a>(pattern: &[u8], body: &'a mut [u8]) -> Option<&'a [u8]> {
-    let bytes = text::read_pattern(pattern, body).unwrap_or(0);
-    body.get(0..bytes)
 }

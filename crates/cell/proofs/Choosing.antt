@@ -1,25 +1,23 @@
 -- Pairs counted, chosen and put in their places among others, one turn at a time. Assumes nothing.
-use mathlib.Core.Path.{◌≡◌, refl, sym, ap, ap₂, ◌∙◌, subst}
+use mathlib.Core.Path.{◌≡◌, refl, sym, ap, ap₂, ◌∙◌}
 use mathlib.Core.List.{List, [], ◌∷◌, ◌++◌, append_assoc, append-nil}
-use Prim.Native.Nat.{ℕ, ◌+◌, ◌-◌, ◌*◌, ◌≤◌, ◌<◌}
+use Prim.Native.Nat.{ℕ, ◌+◌, ◌-◌, ◌*◌, ◌/◌, ◌%◌, ◌≤◌, ◌<◌}
 use native.Mathlib.Nat.{sub-zero}
 use native.Mathlib.Decide.{dec_lt}
 use native.Mathlib.Omega.{arith}
-use lib.ListN.{length, drop, get_or}
+use lib.ListN.{length, take, drop, get_or, length-drop}
 use lib.Seq.{drop-length}
 use Rattle.rules.proofs.Lists.{drop_at}
 use Rattle.rules.specs.Decisions.{pick}
 use Rattle.rules.proofs.Decisions.{pick_yes, pick_no}
 use Rattle.detector.specs.Memory.{Span, none}
-use Rattle.detector.specs.Choice.{better, choose, insert, keep, gather}
-use Rattle.detector.specs.Form.{Sorted}
-use Rattle.detector.proofs.Order.{gather_sorted}
+use Rattle.detector.specs.Choice.{better, choose, keep, gather}
+use Rattle.detector.proofs.Order.{gather_length}
 use Rattle.cell.specs.Words.{span_at, kept_of}
 use Rattle.cell.specs.Cell.{pairs_of}
-use Rattle.cell.specs.Pairs.{spans_from}
-use Rattle.cell.specs.Calls.{PairsIn, InsertReady, Grown}
+use Rattle.cell.specs.Pairs.{spans_from, spans_in}
 use Rattle.cell.proofs.Pairs.{spans_first, spans_end, spans_last}
-use Rattle.cell.proofs.Pairs.{kept_more}
+use Rattle.cell.proofs.Pairs.{spans_in_first, kept_end, kept_stop, kept_more}
 
 -- ---- counted
 
@@ -38,9 +36,18 @@ counted_more c n h z i =
     ∙ append_assoc (spans_from c 0 n) (span_at c (2 * n) ∷ []) (kept_of (drop (2 * n + 2) c))
     ∙ ap (λ (l : List Span). spans_from c 0 n ++ l) (sym (kept_more c (2 * n) h z)) ∙ i
 
-pub counted_all : (c : List ℕ) (n : ℕ) → 2 * n ≤ length c → kept_of (drop (2 * n) c) ≡ [] → Counted c n → PairsIn c n
-counted_all c n h z i =
-    record { same = sym i ∙ ap (λ (l : List Span). spans_from c 0 n ++ l) z ∙ append-nil (spans_from c 0 n); within = h }
+counted_all : (c : List ℕ) (n : ℕ) → kept_of (drop (2 * n) c) ≡ [] → Counted c n → spans_from c 0 n ≡ pairs_of c
+counted_all c n z i = sym (sym i ∙ ap (λ (l : List Span). spans_from c 0 n ++ l) z ∙ append-nil (spans_from c 0 n))
+
+-- up to an empty pair
+pub counted_stop : (c : List ℕ) (n : ℕ) → 2 * n + 1 < length c → get_or c (2 * n) 0 ≡ 0 → Counted c n → spans_in (take (2 * n) c) ≡ pairs_of c
+counted_stop c n h z i = spans_in_first c n (omega arith) ∙ counted_all c n (kept_stop c (2 * n) h z) i
+
+-- up to the end
+pub counted_end : (c : List ℕ) (n : ℕ) → length c % 2 ≡ 0 → length c / 2 ≤ n → 2 * n ≤ length c → Counted c n → spans_in c ≡ pairs_of c
+counted_end c n e h k i =
+    let m : length c / 2 ≡ n = omega arith in
+    ap (spans_from c 0) m ∙ counted_all c n (kept_end c (2 * n) (omega arith)) i
 
 -- ---- chosen
 
@@ -58,11 +65,11 @@ choose_next c n i σ q h e =
 
 -- one pair more, from the last to the first
 pub choose_turn :
-    (c : List ℕ) (n i σ : ℕ) (p q : Span) → 0 < i → i ≤ n → p ≡ span_at c (2 * (i - 1)) → q ≡ choose (spans_from c (2 * i) (n - i)) σ
-    → pick (dec_lt p.end σ) (better p q) q ≡ choose (spans_from c (2 * (i - 1)) (n - (i - 1))) σ
-choose_turn c n i σ p q z h e k =
+    (c : List ℕ) (n i σ : ℕ) (p q r : Span) → 0 < i → i ≤ n → p ≡ span_at c (2 * (i - 1)) → q ≡ choose (spans_from c (2 * i) (n - i)) σ
+    → r ≡ pick (dec_lt p.end σ) (better p q) q → r ≡ choose (spans_from c (2 * (i - 1)) (n - (i - 1))) σ
+choose_turn c n i σ p q r z h e k o =
     let j : i ≡ i - 1 + 1 = omega arith in
-    ap (λ (z : Span). pick (dec_lt z.end σ) (better z q) q) e
+    o ∙ ap (λ (z : Span). pick (dec_lt z.end σ) (better z q) q) e
     ∙ choose_next c n (i - 1) σ q (omega arith) (k ∙ ap (λ (z : ℕ). choose (spans_from c (2 * z) (n - z)) σ) j)
 
 pub choose_done : (c : List ℕ) (n i σ : ℕ) (q : Span) → i ≤ 0 → q ≡ choose (spans_from c (2 * i) (n - i)) σ → q ≡ choose (spans_from c 0 n) σ
@@ -96,16 +103,6 @@ module _ (p q : Span) where
 
 -- ---- kept
 
-pub keep_some : (p : Span) (l : List Span) {n r : ℕ} {s : List ℕ} → 0 < p.start → Grown (insert p l) n s r → Grown (keep p l) n s r
-unfolding keep
-keep_some p l {n} {r} {s} h g = subst (λ (k : List Span). Grown k n s r) (sym (pick_yes (dec_lt 0 p.start) (insert p l) l h)) g
-
-pub keep_none : (p : Span) (s : List ℕ) (n : ℕ) → p.start ≤ 0 → Grown (keep p (spans_from s 0 n)) n s n
-unfolding keep
-keep_none p s n h =
-    let l : List Span = spans_from s 0 n in
-    record { pairs = sym (pick_no (dec_lt 0 p.start) (insert p l) l (λ k. omega arith)); most = omega arith }
-
 -- for one start more, from the last to the first
 pub gather_turn :
     (old : List Span) (ys : List ℕ) (i : ℕ) (p : Span) (l : List Span) → 0 < i → i ≤ length ys → p ≡ choose old (get_or ys (i - 1) 0)
@@ -115,16 +112,15 @@ gather_turn old ys i p l z h e k =
     let j : i ≡ i - 1 + 1 = omega arith in
     ap₂ keep e (k ∙ ap (λ (n : ℕ). gather old (drop n ys)) j) ∙ ap (gather old) (sym (drop_at ys (i - 1) (omega arith)))
 
-pub gather_begin : (s : List ℕ) (old : List Span) (ys : List ℕ) → spans_from s 0 0 ≡ gather old (drop (length ys) ys)
-unfolding spans_from gather
-gather_begin s old ys = ap (gather old) (sym (drop-length ys))
+pub gather_begin : (old : List Span) (ys : List ℕ) → [] ≡ gather old (drop (length ys) ys)
+unfolding gather
+gather_begin old ys = ap (gather old) (sym (drop-length ys))
 
 pub gather_done : (old : List Span) (ys : List ℕ) (i : ℕ) → i ≤ 0 → gather old (drop i ys) ≡ gather old ys
 gather_done old ys i h =
     let z : i ≡ 0 = omega arith in
     ap (λ (n : ℕ). gather old (drop n ys)) z
 
--- the pairs gathered so far have starts strictly rising, and there is room for one more
-pub insert_ready :
-    (s : List ℕ) (n : ℕ) (old : List Span) (ys : List ℕ) → 2 * n + 2 ≤ length s → spans_from s 0 n ≡ gather old ys → InsertReady s n
-insert_ready s n old ys h e = record { room = h; sorted = subst (Sorted 0) (sym e) (gather_sorted old ys) }
+-- the pairs gathered so far are no more than their starts
+pub gather_few : (old : List Span) (ys : List ℕ) (i : ℕ) → 0 < i → length ys ≤ 62 → length (gather old (drop i ys)) < 62
+gather_few old ys i z h = omega (arith, gather_length old (drop i ys) (length ys - i) (omega (arith, length-drop i ys)))

@@ -1,8 +1,7 @@
 -- Pairs gathered elsewhere, put over the kept pairs of a cell word by word. Assumes nothing.
 use mathlib.Core.Path.{◌≡◌, refl, sym, ap, ap₂, ◌∙◌}
 use mathlib.Core.List.{List, [], ◌∷◌, ◌++◌, append-nil}
-use Prim.Native.Nat.{ℕ, zero, suc, ◌+◌, ◌-◌, ◌*◌, ◌/◌, ◌≤◌, ◌<◌}
-use native.Mathlib.Nat.{add-zero}
+use Prim.Native.Nat.{ℕ, zero, suc, ◌+◌, ◌-◌, ◌*◌, ◌/◌, ◌%◌, ◌≤◌, ◌<◌}
 use native.Mathlib.Decide.{dec_lt}
 use native.Mathlib.Omega.{arith}
 use native.Mathlib.Numerals.{add-one}
@@ -14,67 +13,67 @@ use Rattle.detector.specs.Choice.{better, choose, gather}
 use Rattle.cell.specs.Words.{kept_words, kept_of}
 use Rattle.cell.specs.Cell.{pairs_of}
 use Rattle.cell.specs.Pairs.{spans_from}
-use Rattle.cell.specs.Calls.{StoreReady, new_words, Gathered, KeepReady, kept_after}
+use Rattle.cell.specs.Calls.{kept_after}
 use Rattle.cell.proofs.WordLaws.{length_kept_words}
+use Rattle.cell.proofs.Pairs.{drop_two, length_spans}
 
-word_in : (n m : ℕ) (s : List ℕ) (at i : ℕ) → m ≤ n → i < 2 * m → get_or (kept_words n (spans_from s at m)) i 0 ≡ get_or s (at + i) 0
+-- the words of pairs from a place on
+words_from : (s : List ℕ) (at n : ℕ) → at + 2 * n ≤ length s → take (2 * n) (drop at s) ≡ kept_words n (spans_from s at n)
 unfolding kept_words spans_from
-word_in n zero s at i h k = absurd (omega arith)
-word_in zero (suc m) s at i h k = absurd (omega arith)
-word_in (suc n) (suc m) s at zero h k = ap (λ (z : ℕ). get_or s z 0) (sym (add-zero at))
-word_in (suc n) (suc m) s at (suc zero) h k = refl
-word_in (suc n) (suc m) s at (suc (suc i)) h k =
-    let e : at + 2 + i ≡ at + suc (suc i) = omega arith in
-    word_in n m s (at + 2) i (omega arith) (omega arith) ∙ ap (λ (z : ℕ). get_or s z 0) e
+words_from s at zero h = refl
+words_from s at (suc n) h =
+    let e : 2 * suc n ≡ suc (suc (2 * n)) = omega arith in
+    ap₂ (λ (k : ℕ) (l : List ℕ). take k l) e (drop_two s at (omega arith))
+    ∙ ap (λ (l : List ℕ). get_or s at 0 ∷ get_or s (at + 1) 0 ∷ l) (words_from s (at + 2) n (omega arith))
 
-word_out : (n m : ℕ) (s : List ℕ) (at i : ℕ) → 2 * m ≤ i → get_or (kept_words n (spans_from s at m)) i 0 ≡ 0
-unfolding kept_words spans_from
-word_out zero m s at i h = refl
-word_out (suc n) zero s at zero h = refl
-word_out (suc n) zero s at (suc zero) h = refl
-word_out (suc n) zero s at (suc (suc i)) h = word_out n zero s at i (omega arith)
-word_out (suc n) (suc m) s at zero h = absurd (omega arith)
-word_out (suc n) (suc m) s at (suc zero) h = absurd (omega arith)
-word_out (suc n) (suc m) s at (suc (suc i)) h = word_out n m s (at + 2) i (omega arith)
+-- the first words are those of the first pairs
+pub words_taken : (s : List ℕ) (n : ℕ) → 2 * n ≤ length s → take (2 * n) s ≡ kept_words (length (spans_from s 0 n)) (spans_from s 0 n)
+words_taken s n h = words_from s 0 n (omega arith) ∙ ap (λ (k : ℕ). kept_words k (spans_from s 0 n)) (sym (length_spans s 0 n))
 
-kept_word : (n m : ℕ) (s : List ℕ) (i : ℕ) → m ≤ n → get_or (kept_words n (spans_from s 0 m)) i 0 ≡ pick (dec_lt i (2 * m)) (get_or s i 0) 0
-kept_word n m s i h = go (dec_lt i (2 * m))
-  where
-    go : (d : Dec (i < 2 * m)) → get_or (kept_words n (spans_from s 0 m)) i 0 ≡ pick d (get_or s i 0) 0
-    go (yes k) =
-        let e : 0 + i ≡ i = omega arith in
-        word_in n m s 0 i h k ∙ ap (λ (z : ℕ). get_or s z 0) e
-    go (no k) = word_out n m s 0 i (omega arith)
+-- zeros after the pairs change no word
+kept_word : (n : ℕ) (l : List Span) (i : ℕ) → length l ≤ n → get_or (kept_words (length l) l) i 0 ≡ get_or (kept_words n l) i 0
+unfolding kept_words
+kept_word zero [] i h = refl
+kept_word (suc n) [] zero h = refl
+kept_word (suc n) [] (suc zero) h = refl
+kept_word (suc n) [] (suc (suc i)) h = kept_word n [] i (omega arith)
+kept_word zero (q ∷ l) i h = absurd (omega arith)
+kept_word (suc n) (q ∷ l) zero h = refl
+kept_word (suc n) (q ∷ l) (suc zero) h = refl
+kept_word (suc n) (q ∷ l) (suc (suc i)) h = kept_word n l i (omega arith)
 
-module _ (c kept : List ℕ) (n : ℕ) (r : StoreReady c kept n) where
-  length_new : length (new_words c kept n) + 2 ≡ length c
-  length_new = omega (arith, length_kept_words (length c / 2 - 1) (spans_from kept 0 n))
+module _ (c : List ℕ) (l : List Span) (two : 2 ≤ length c) (even : length c % 2 ≡ 0) (room : 2 * length l + 2 ≤ length c) where
+  -- the cell's kept pairs as they become
+  abbrev new : List ℕ
+  new = kept_words (length c / 2 - 1) l
+
+  length_new : length new + 2 ≡ length c
+  length_new = omega (arith, length_kept_words (length c / 2 - 1) l)
 
   -- a word more
   pub store_word :
-      (c' : List ℕ) (i v : ℕ) → i + 2 < length c → v ≡ pick (dec_lt i (2 * n)) (get_or kept i 0) 0 → c' ≡ paste c 2 (new_words c kept n) i
-      → set c' (i + 2) v ≡ paste c 2 (new_words c kept n) (i + 1)
-  store_word c' i v h e q =
-      let l : List ℕ = new_words c kept n in
-      let w : v ≡ get_or l i 0 = e ∙ sym (kept_word (length c / 2 - 1) n kept i (omega arith)) in
+      (c' ws : List ℕ) (i v : ℕ) → i + 2 < length c → ws ≡ kept_words (length l) l → v ≡ get_or ws i 0 → c' ≡ paste c 2 new i
+      → set c' (i + 2) v ≡ paste c 2 new (i + 1)
+  store_word c' ws i v h k e q =
+      let w : v ≡ get_or new i 0 = e ∙ ap (λ (z : List ℕ). get_or z i 0) k ∙ kept_word (length c / 2 - 1) l i (omega arith) in
       let p : i + 2 ≡ 2 + i = omega arith in
-      ap (λ (z : List ℕ). set z (i + 2) v) q ∙ ap (set (paste c 2 l i) (i + 2)) w ∙ ap (λ (k : ℕ). set (paste c 2 l i) k (get_or l i 0)) p
-      ∙ paste-suc c 2 l i 0 (omega arith) (omega (arith, length_new)) ∙ ap (paste c 2 l) (sym (add-one i))
+      ap (λ (z : List ℕ). set z (i + 2) v) q ∙ ap (set (paste c 2 new i) (i + 2)) w ∙ ap (λ (k : ℕ). set (paste c 2 new i) k (get_or new i 0)) p
+      ∙ paste-suc c 2 new i 0 (omega arith) (omega (arith, length_new)) ∙ ap (paste c 2 new) (sym (add-one i))
 
-  pub store_end : (c' : List ℕ) (i : ℕ) → i + 2 ≡ length c → c' ≡ paste c 2 (new_words c kept n) i → c' ≡ take 2 c ++ new_words c kept n
+  pub store_end : (c' : List ℕ) (i : ℕ) → i + 2 ≡ length c → c' ≡ paste c 2 new i → c' ≡ take 2 c ++ new
   store_end c' i h q =
-      let l : List ℕ = new_words c kept n in
       let m : length c ≤ 2 + i = omega arith in
       let z : drop (2 + i) c ≡ [] = drop_of_length-le c m in
-      q ∙ ap (λ (k : List ℕ). take 2 c ++ k ++ drop (2 + i) c) (take_all i l (omega (arith, length_new)))
-      ∙ ap (λ (k : List ℕ). take 2 c ++ l ++ k) z ∙ append-nil (take 2 c ++ l)
+      q ∙ ap (λ (k : List ℕ). take 2 c ++ k ++ drop (2 + i) c) (take_all i new (omega (arith, length_new)))
+      ∙ ap (λ (k : List ℕ). take 2 c ++ new ++ k) z ∙ append-nil (take 2 c ++ new)
 
 -- what is stored is what was gathered
 pub kept_stored :
-    (c ys kept c' : List ℕ) (n r : ℕ) → KeepReady c n ys → Gathered c n ys kept r → c' ≡ take 2 c ++ new_words c kept r → c' ≡ kept_after ys c
-kept_stored c ys kept c' n r k g e =
-    let m : length c / 2 - 1 ≡ length ys = omega (arith, k.words) in
-    e ∙ ap₂ (λ (z : ℕ) (l : List Span). take 2 c ++ kept_words z l) m (g.pairs ∙ ap (λ (l : List Span). gather l ys) (sym k.pairs.same))
+    (c ys c' : List ℕ) (old : List Span) → length c ≡ 2 * (1 + length ys) → old ≡ pairs_of c → c' ≡ take 2 c ++ kept_words (length c / 2 - 1) (gather old ys)
+    → c' ≡ kept_after ys c
+kept_stored c ys c' old h o e =
+    let m : length c / 2 - 1 ≡ length ys = omega arith in
+    e ∙ ap₂ (λ (z : ℕ) (l : List Span). take 2 c ++ kept_words z (gather l ys)) m o
 
 -- without possible starts there is nothing to keep
 pub kept_nothing : (c ys : List ℕ) → length c ≡ 2 * (1 + length ys) → length ys ≡ 0 → c ≡ kept_after ys c

@@ -1,17 +1,18 @@
 -- Words two by two, and pairs that stand one after the other: read from either end, and kept by a store elsewhere. Assumes nothing.
 use mathlib.Core.Path.{◌≡◌, refl, ap, ap₂, ◌∙◌}
 use mathlib.Core.List.{List, [], ◌∷◌, ◌++◌}
-use Prim.Native.Nat.{ℕ, zero, suc, ◌+◌, ◌-◌, ◌*◌, ◌≤◌, ◌<◌}
+use Prim.Native.Nat.{ℕ, zero, suc, ◌+◌, ◌-◌, ◌*◌, ◌/◌, ◌≤◌, ◌<◌}
 use native.Mathlib.Decide.{ℕ_discrete}
 use native.Mathlib.Omega.{arith}
 use native.Mathlib.Numerals.{add-one}
-use lib.ListN.{length, drop, get_or, set, length-set, drop_of_length-le}
+use lib.ListN.{length, take, drop, get_or, set, length-set, length-take, drop_of_length-le}
 use lib.Seq.{get_or-set_same, get_or-set_other}
+use Rattle.std.proofs.lemmas.List.{get_or-take}
 use Rattle.rules.proofs.Lists.{drop_at}
 use Rattle.rules.proofs.Decisions.{pick_yes, pick_no}
 use Rattle.detector.specs.Memory.{Span}
 use Rattle.cell.specs.Words.{span_at, kept_of}
-use Rattle.cell.specs.Pairs.{spans_from, put_span}
+use Rattle.cell.specs.Pairs.{spans_from, spans_in, put_span}
 
 pub drop_two : (c : List ℕ) (at : ℕ) → at + 1 < length c → drop at c ≡ get_or c at 0 ∷ get_or c (at + 1) 0 ∷ drop (at + 2) c
 drop_two c at h =
@@ -19,6 +20,11 @@ drop_two c at h =
     drop_at c at (omega arith) ∙ ap (λ (l : List ℕ). get_or c at 0 ∷ l) (drop_at c (at + 1) h ∙ ap (λ (n : ℕ). get_or c (at + 1) 0 ∷ drop n c) e)
 
 -- ---- pairs from a place on
+
+pub length_spans : (c : List ℕ) (at n : ℕ) → length (spans_from c at n) ≡ n
+unfolding spans_from
+length_spans c at zero = refl
+length_spans c at (suc n) = ap suc (length_spans c (at + 2) n)
 
 -- the first of those from pair i on
 pub spans_first :
@@ -69,10 +75,20 @@ spans_split c n i h =
     let a : 0 + 2 * i ≡ 2 * i = omega arith in
     ap (spans_from c 0) e ∙ spans_split_at c 0 i (n - i) ∙ ap (λ (k : ℕ). spans_from c 0 i ++ spans_from c k (n - i)) a
 
--- ---- a pair stored
+spans_take : (c : List ℕ) (m at n : ℕ) → at + 2 * n ≤ m → spans_from (take m c) at n ≡ spans_from c at n
+unfolding spans_from
+spans_take c m at zero h = refl
+spans_take c m at (suc n) h =
+    ap₂ (λ (q : Span) (l : List Span). q ∷ l) (rw (get_or-take m c at 0 (omega arith), get_or-take m c (at + 1) 0 (omega arith)) refl)
+    (spans_take c m (at + 2) n (omega arith))
 
-pub length_put : (c : List ℕ) (at : ℕ) (q : Span) → length (put_span c at q) ≡ length c
-length_put c at q = simp length-set
+-- those of the first words are the first ones
+pub spans_in_first : (c : List ℕ) (n : ℕ) → 2 * n ≤ length c → spans_in (take (2 * n) c) ≡ spans_from c 0 n
+spans_in_first c n h =
+    let e : length (take (2 * n) c) / 2 ≡ n = omega (arith, length-take (2 * n) c) in
+    ap (spans_from (take (2 * n) c) 0) e ∙ spans_take c (2 * n) 0 n (omega arith)
+
+-- ---- a pair stored
 
 span_other : (c : List ℕ) (j v at : ℕ) → (at ≡ j → ⊥) → (at + 1 ≡ j → ⊥) → span_at (set c j v) at ≡ span_at c at
 span_other c j v at h k = rw (get_or-set_other c j at v 0 h, get_or-set_other c j (at + 1) v 0 k)

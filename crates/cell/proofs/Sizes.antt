@@ -1,10 +1,10 @@
 -- What the words of a cell come to, once its operator is known. Assumes nothing.
 use mathlib.Core.Path.{◌≡◌, refl, ◌∙◌}
 use mathlib.Core.Bool.{Bool, true, false, cond}
-use Prim.Native.Nat.{ℕ, ◌+◌, ◌*◌, ◌%◌, ◌≤◌, ◌<◌}
+use Prim.Native.Nat.{ℕ, ◌+◌, ◌*◌, ◌%◌, ◌≤◌}
 use native.Mathlib.Omega.{arith}
 use lib.Dec.{leb, eqb}
-use borrow.Author.Tests.{leb-true, eqb-true, le-leb, lt-leb, eq-eqb}
+use borrow.Author.Tests.{leb-true, eqb-true, le-leb, eq-eqb}
 use Rattle.rules.proofs.Decisions.{both_true}
 use Rattle.rules.specs.declared.Op.{Op}
 use Rattle.rules.specs.declared.Op.TheVariants.{Either, Both, Without, Chain}
@@ -36,14 +36,6 @@ module _ (op : Op) (y n : ℕ) where
       go true q = le-leb n 126 (omega (arith, eqb-true n (cell_words op y) q))
       go false q = refl
 
-  is_cell_not : 126 < cell_words op y → is_cell op y n ≡ false
-  unfolding is_cell
-  is_cell_not h = go (eqb n (cell_words op y)) refl
-    where
-      go : (b : Bool) → eqb n (cell_words op y) ≡ b → cond b (leb n 126) false ≡ false
-      go true q = lt-leb n 126 (omega (arith, eqb-true n (cell_words op y) q))
-      go false q = refl
-
 few_words : (op : Op) (y : ℕ) → y ≤ 62 → cell_words op y ≤ 126
 unfolding cell_words
 few_words Either y h = omega arith
@@ -66,14 +58,6 @@ module _ (y n : ℕ) where
   pub is_without : is_cell Without y n ≡ eqb n 1
   unfolding cell_words
   is_without = is_cell_words Without y n (omega arith)
-
-  pub is_chain : y ≤ 62 → is_cell Chain y n ≡ eqb n (2 * (1 + y))
-  unfolding cell_words
-  is_chain h = is_cell_words Chain y n (omega arith)
-
-  pub is_chain_not : 62 < y → is_cell Chain y n ≡ false
-  unfolding cell_words
-  is_chain_not h = is_cell_not Chain y n (omega arith)
 
   pub is_chain_ready : is_cell Chain y n ≡ true → (y ≤ 62) × (n ≡ cell_words Chain y)
   unfolding is_cell cell_words

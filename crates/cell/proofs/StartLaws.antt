@@ -9,7 +9,7 @@ use native.Mathlib.Numerals.{add-one}
 use lib.Dec.{leb}
 use lib.ListN.{length, take, drop, get_or, set, length-drop, take-append-drop, get_or-append}
 use lib.Seq.{paste, paste-suc, take-length, get_or-drop, get_or_at, sets-eq}
-use borrow.Author.Tests.{leb-true, leb-false, le-leb, lt-leb, eq-eqb, ne_eqb}
+use borrow.Author.Tests.{le-leb, eq-eqb, ne_eqb}
 use Rattle.rules.specs.declared.Op.{Op}
 use Rattle.rules.specs.declared.Op.TheVariants.{Both, Chain}
 use Rattle.cell.specs.Words.{starts_in}
@@ -140,11 +140,3 @@ module _ (c s : List ℕ) (at : ℕ) where
 
   pub chain_starts_fit : size_fits Chain (length c) ≡ true → starts_fit Chain c s at ≡ leb (at + length c / 2) (length s)
   chain_starts_fit q = starts_fit_room Chain c s at q ∙ ap (λ (k : ℕ). leb (at + k) (length s)) (length_chain_starts c (chain_paired (length c) q))
-
--- n words have room at a place exactly if those after it are as many
-pub room_after : (m at n : ℕ) → at ≤ m → leb n (m - at) ≡ leb (at + n) m
-room_after m at n h = go (leb n (m - at)) refl
-  where
-    go : (b : Bool) → leb n (m - at) ≡ b → leb n (m - at) ≡ leb (at + n) m
-    go true q = q ∙ sym (le-leb (at + n) m (omega (arith, leb-true n (m - at) q)))
-    go false q = q ∙ sym (lt-leb (at + n) m (omega (arith, leb-false n (m - at) q)))

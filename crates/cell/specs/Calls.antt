@@ -1,13 +1,11 @@
 -- What the functions on a cell require and promise. Assumes nothing: these are definitions.
-use Rattle.std.specs.Prelude.{◌≡◌, Bool, false, cond, List, ◌++◌, ℕ, ◌+◌, ◌-◌, ◌*◌, ◌/◌, ◌%◌, ◌≤◌, leb, eqb, length, take, drop}
+use Rattle.std.specs.Prelude.{◌≡◌, Bool, false, cond, List, ◌++◌, ℕ, ◌+◌, ◌%◌, ◌≤◌, leb, eqb, length, take, drop}
 use Rattle.rules.specs.declared.Op.{Op}
-use Rattle.detector.specs.Memory.{Span}
 use Rattle.detector.specs.Choice.{gather}
-use Rattle.detector.specs.Form.{Sorted}
 use Rattle.cell.specs.Words.{span_at, kept_words}
 use Rattle.cell.specs.Cell.{cell_words, pairs_of, becomes, cell_answer, cell_after, cell_starts}
 use Rattle.cell.specs.Form.{size_fits}
-use Rattle.cell.specs.Pairs.{spans_from, put_span}
+use Rattle.cell.specs.Pairs.{put_span}
 
 -- n words are whole pairs, at least one
 pub record Paired (n : ℕ) : Type 0 where
@@ -37,47 +35,6 @@ pub record StepAnswers (op : Op) (e x y : ℕ) (ys c c' : List ℕ) (r : ℕ) : 
 pub record Renewed (c : List ℕ) (at a e : ℕ) (c' : List ℕ) (r : ℕ) : Type 0 where
   pub start : r ≡ (becomes (span_at c at) a e).start
   pub words : c' ≡ put_span c at (becomes (span_at c at) a e)
-
--- latest and the kept pairs are the first n
-pub record PairsIn (c : List ℕ) (n : ℕ) : Type 0 where
-  pub same : pairs_of c ≡ spans_from c 0 n
-  pub within : 2 * n ≤ length c
-
--- n pairs with starts strictly rising, and room for one more
-pub record InsertReady (c : List ℕ) (n : ℕ) : Type 0 where
-  pub room : 2 * n + 2 ≤ length c
-  pub sorted : Sorted 0 (spans_from c 0 n)
-
--- the first r pairs are those of l, at most one more than n
-pub record Grown (l : List Span) (n : ℕ) (c' : List ℕ) (r : ℕ) : Type 0 where
-  pub pairs : spans_from c' 0 r ≡ l
-  pub most : r ≤ n + 1
-
--- the first n pairs of a cell are there, and there is room for a pair for each of the starts
-pub record GatherReady (c : List ℕ) (n : ℕ) (ys room : List ℕ) : Type 0 where
-  pub within : 2 * n ≤ length c
-  pub enough : 2 * length ys ≤ length room
-
--- the first r pairs are those gathered
-pub record Gathered (c : List ℕ) (n : ℕ) (ys kept : List ℕ) (r : ℕ) : Type 0 where
-  pub pairs : spans_from kept 0 r ≡ gather (spans_from c 0 n) ys
-  pub most : r ≤ length ys
-
--- n pairs stand in other words, no more than the cell has kept pairs
-pub record StoreReady (c kept : List ℕ) (n : ℕ) : Type 0 where
-  pub paired : Paired (length c)
-  pub room : 2 * n + 2 ≤ length c
-  pub there : 2 * n ≤ length kept
-
--- these as the new words of the cell's kept pairs
-abbrev pub new_words : List ℕ → List ℕ → ℕ → List ℕ
-new_words c kept n = kept_words (length c / 2 - 1) (spans_from kept 0 n)
-
--- the first n pairs of a cell are latest and the kept ones, and it has a kept pair for each of the starts
-pub record KeepReady (c : List ℕ) (n : ℕ) (ys : List ℕ) : Type 0 where
-  pub pairs : PairsIn c n
-  pub few : length ys ≤ 62
-  pub words : length c ≡ 2 * (1 + length ys)
 
 -- latest is as it was, and the kept pairs are those gathered
 abbrev pub kept_after : List ℕ → List ℕ → List ℕ

@@ -1,5 +1,5 @@
 -- Pairs that stand one after the other in words, as the code reads and writes them. Assumes nothing: these are definitions.
-use Rattle.std.specs.Prelude.{List, [], ◌∷◌, ℕ, zero, suc, ◌+◌, set}
+use Rattle.std.specs.Prelude.{List, [], ◌∷◌, ℕ, zero, suc, ◌+◌, ◌/◌, set, length}
 use Rattle.detector.specs.Memory.{Span}
 use Rattle.cell.specs.declared.pair.Pair.{Pair}
 use Rattle.cell.specs.Words.{span_at}
@@ -12,6 +12,10 @@ span_of p = record { start = p.start; end = p.end }
 unfoldable pub spans_from : List ℕ → ℕ → ℕ → List Span
 spans_from c at zero = []
 spans_from c at (suc n) = span_at c at ∷ spans_from c (at + 2) n
+
+-- the pairs that the words are
+abbrev pub spans_in : List ℕ → List Span
+spans_in c = spans_from c 0 (length c / 2)
 
 -- a pair stored at a place
 abbrev pub put_span : List ℕ → ℕ → Span → List ℕ

@@ -1,90 +1,109 @@
 // The kept pairs of a chain: gathered from the old, and stored.
-ghost use Rattle.std.specs.Prelude.{◌≡◌, ◌++◌, ◌≤◌, length, take, get_or};
-ghost use Rattle.std.proofs.Math.Decide.{dec_lt};
-ghost use Rattle.rules.specs.Decisions.{pick};
-ghost use Rattle.detector.specs.Choice.{insert, keep};
-ghost use Rattle.cell.specs.Pairs.{span_of, spans_from};
-ghost use Rattle.cell.specs.Calls.{InsertReady, Grown, GatherReady, Gathered, StoreReady, new_words, KeepReady, kept_after};
+ghost use Rattle.std.specs.Prelude.{◌≡◌, ◌++◌, ◌+◌, ◌-◌, ◌*◌, ◌/◌, ◌<◌, ◌≤◌, [], length, take};
+ghost use Rattle.detector.specs.Choice.{insert, keep, gather};
+ghost use Rattle.cell.specs.Words.{kept_words};
+ghost use Rattle.cell.specs.Pairs.{span_of, spans_in};
+ghost use Rattle.cell.specs.Calls.{Paired};
 
 use crate::pair::Pair;
+use std::marker::Model;
 
-// The new kept pairs take the place of the old. They are gathered apart, since each is chosen from the old.
-pub(crate) fn gather_kept(cell: &mut [u64], pairs: usize, starts: &[u64])
-    requires { KeepReady cell.old pairs starts.now }
-    ensures { cell.new ≡ kept_after starts.now cell.old }
-{
-    // Two words for each of at most 62 possible starts.
-    let mut kept = [0u64; 124];
-    let count = gather_pairs(cell, pairs, starts, &mut kept);
-    store_kept(cell, &kept, count);
+// Pairs with starts strictly rising, at most 62, one for each possible start.
+#[derive(Drop)]
+pub(crate) struct Kept {
+    words: [u64; 124],
+    count: usize,
 }
 
-// For each possible start, the pair chosen; these, without repeats, with starts strictly rising.
-pub(crate) fn gather_pairs(cell: &[u64], pairs: usize, starts: &[u64], kept: &mut [u64]) -> usize
-    requires { GatherReady cell.now pairs starts.now kept.old }
-    ensures { Gathered cell.now pairs starts.now kept.new result }
+impl Model for Kept {
+    ghost use Rattle.std.specs.Prelude.{List, ◌≤◌};
+    ghost use Rattle.detector.specs.Memory.{Span};
+    ghost use Rattle.detector.specs.Form.{Sorted};
+    ghost use Rattle.cell.specs.Pairs.{spans_from};
+
+    ghost Value = { List Span };
+
+    ghost view = { λ k. spans_from k.words 0 k.count };
+
+    ghost invariant = { λ k. (k.count ≤ 62) × Sorted 0 (spans_from k.words 0 k.count) };
+}
+
+impl Kept {
+    // No pair.
+    #[tactic(auto, unfolding(crate::specs::Pairs::spans_from))]
+    pub(crate) fn new() -> Self
+        ensures { result ≡ [] }
+    {
+        Kept {
+            words: [0; 124],
+            count: 0,
+        }
+    }
+
+    // The words of the pairs.
+    #[tactic(auto, using(crate::proofs::Pairs::length_spans, crate::proofs::KeptLaws::words_taken))]
+    fn words(&self) -> &[u64]
+        ensures { result.now ≡ kept_words (length self.now) self.now }
+    {
+        &self.words[..2 * self.count]
+    }
+
+    // Puts a pair in its place, nothing if it is none.
+    #[tactic(auto, unfolding(detector::specs::Choice::keep), using(rules::proofs::Decisions::pick_yes, rules::proofs::Decisions::pick_no))]
+    fn keep(&mut self, pair: Pair)
+        requires { length self.old < 62 }
+        ensures { self.new ≡ keep (span_of pair) self.old }
+    {
+        if 0 < pair.start {
+            self.insert(pair);
+        }
+    }
+
+    // Puts a pair in its place, without repeats: each later pair moves up by one.
+    #[tactic(auto, using(crate::proofs::Pairs::length_spans, crate::proofs::Insertion::carry_end, crate::proofs::Insertion::carried_rising))]
+    fn insert(&mut self, pair: Pair)
+        requires some { 0 < pair.start }
+        requires room { length self.old < 62 }
+        ensures { self.new ≡ insert (span_of pair) self.old }
+    {
+        let mut carried = pair;
+        for i in 0..self.count {
+            let at = 2 * i;
+            let here = crate::pair::pair_at(&self.words, at);
+            if carried.start == here.start {
+                crate::pair::put_pair(&mut self.words, at, crate::pair::better_of(carried, here));
+                return;
+            }
+            if carried.start < here.start {
+                crate::pair::put_pair(&mut self.words, at, carried);
+                carried = here;
+            }
+        }
+        crate::pair::put_pair(&mut self.words, 2 * self.count, carried);
+        self.count += 1;
+    }
+}
+
+// For each possible start, the pair chosen; these, without repeats. They are gathered apart from the cell, since each is chosen from the old.
+#[tactic(auto, using(crate::proofs::Choosing::gather_begin, crate::proofs::Choosing::gather_few, crate::proofs::Choosing::gather_turn, crate::proofs::Choosing::gather_done))]
+pub(crate) fn gather_pairs(pairs: &[u64], starts: &[u64], kept: &mut Kept)
+    requires few { length starts.now ≤ 62 }
+    requires empty { kept.old ≡ [] }
+    ensures { kept.new ≡ gather (spans_in pairs.now) starts.now }
 {
-    let mut count: usize = 0;
     for i in (0..starts.len()).rev() {
-        count = keep_pair(
-            kept,
-            count,
-            crate::pair::choose_pair(cell, pairs, starts[i]),
-        );
+        kept.keep(crate::pair::choose_pair(pairs, starts[i]));
     }
-    count
-}
-
-// Puts a pair in its place, nothing if it is none, and gives how many there are then.
-pub(crate) fn keep_pair(kept: &mut [u64], count: usize, pair: Pair) -> usize
-    requires { InsertReady kept.old count }
-    ensures { Grown (keep (span_of pair) (spans_from kept.old 0 count)) count kept.new result }
-{
-    if 0 < pair.start {
-        return insert_pair(kept, count, pair);
-    }
-    count
-}
-
-// Puts a pair in its place among pairs with starts strictly rising, without repeats: each later pair moves up by one.
-pub(crate) fn insert_pair(kept: &mut [u64], count: usize, pair: Pair) -> usize
-    requires { InsertReady kept.old count }
-    ensures { Grown (insert (span_of pair) (spans_from kept.old 0 count)) count kept.new result }
-{
-    let mut carried = pair;
-    for i in 0..count {
-        let at = 2 * i;
-        let here = crate::pair::pair_at(kept, at);
-        if carried.start == here.start {
-            crate::pair::put_pair(kept, at, crate::pair::better_of(carried, here));
-            return count;
-        }
-        if carried.start < here.start {
-            crate::pair::put_pair(kept, at, carried);
-            carried = here;
-        }
-    }
-    crate::pair::put_pair(kept, 2 * count, carried);
-    count + 1
 }
 
 // The pairs go over the kept pairs of a cell, with zeros after.
-pub(crate) fn store_kept(cell: &mut [u64], kept: &[u64], count: usize)
-    requires { StoreReady cell.old kept.now count }
-    ensures { cell.new ≡ take 2 cell.old ++ new_words cell.old kept.now count }
+pub(crate) fn store_kept(cell: &mut [u64], kept: &Kept)
+    requires paired { Paired (length cell.old) }
+    requires room { 2 * length kept.now + 2 ≤ length cell.old }
+    ensures { cell.new ≡ take 2 cell.old ++ kept_words (length cell.old / 2 - 1) kept.now }
 {
+    let words = kept.words();
     for i in 0..cell.len() - 2 {
-        cell[i + 2] = word_or_zero(kept, 2 * count, i);
+        cell[i + 2] = words.get(i).copied().unwrap_or(0);
     }
-}
-
-// Word i of the first n, zero after them.
-pub(crate) fn word_or_zero(words: &[u64], n: usize, i: usize) -> u64
-    requires { n ≤ length words.now }
-    ensures { result ≡ pick (dec_lt i n) (get_or words.now i 0) 0 }
-{
-    if i < n {
-        return words[i];
-    }
-    0
 }

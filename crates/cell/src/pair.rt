@@ -1,13 +1,14 @@
 // Pairs in words: read, put, and the best that ends before a start.
-ghost use Rattle.std.specs.Prelude.{◌≡◌, ◌+◌, ◌*◌, ◌<◌, ◌≤◌, length};
+ghost use Rattle.std.specs.Prelude.{◌≡◌, ◌+◌, ◌<◌, length};
 ghost use Rattle.std.proofs.Math.Decide.{dec_lt};
 ghost use Rattle.rules.specs.Decisions.{pick};
 ghost use Rattle.detector.specs.Choice.{better, choose};
 ghost use Rattle.cell.specs.Words.{span_at};
-ghost use Rattle.cell.specs.Pairs.{span_of, spans_from, put_span};
-ghost use Rattle.cell.specs.Calls.{Paired, PairsIn};
+ghost use Rattle.cell.specs.Cell.{pairs_of};
+ghost use Rattle.cell.specs.Pairs.{span_of, spans_in, put_span};
+ghost use Rattle.cell.specs.Calls.{Paired};
 
-// A pair: start + 1 and end + 1, or 0 and 0 for none.
+// A pair: start + 1 and end + 1, or 0 and 0 for none, as the words of a state have it.
 #[derive(Clone, Copy, Debug, PartialEq, Eq)]
 pub(crate) struct Pair {
     pub(crate) start: u64,
@@ -32,28 +33,28 @@ pub(crate) fn put_pair(words: &mut [u64], at: usize, pair: Pair)
     words[at + 1] = pair.end;
 }
 
-// How many pairs a chain's cell has: latest, and the kept ones before the first empty one.
-pub(crate) fn pairs_in(cell: &[u64]) -> usize
+// Latest and the kept pairs of a chain's cell, those before the first empty one.
+#[tactic(auto, using(crate::proofs::Choosing::counted_first, crate::proofs::Choosing::counted_more, crate::proofs::Choosing::counted_stop, crate::proofs::Choosing::counted_end))]
+pub(crate) fn pairs_in(cell: &[u64]) -> &[u64]
     requires { Paired (length cell.now) }
-    ensures { PairsIn cell.now result }
+    ensures { spans_in result.now ≡ pairs_of cell.now }
 {
     for pairs in 1..cell.len() / 2 {
-        let start = cell[2 * pairs];
-        if start == 0 {
-            return pairs;
+        if cell[2 * pairs] == 0 {
+            return &cell[..2 * pairs];
         }
     }
-    cell.len() / 2
+    cell
 }
 
-// Of the first pairs those that end before a start, and of these the one with the latest start (of equal starts, the lesser end), or none.
-pub(crate) fn choose_pair(cell: &[u64], pairs: usize, start: u64) -> Pair
-    requires { 2 * pairs ≤ length cell.now }
-    ensures { span_of result ≡ choose (spans_from cell.now 0 pairs) start }
+// Of pairs those that end before a start, and of these the one with the latest start (of equal starts, the lesser end), or none.
+#[tactic(auto, using(crate::proofs::Choosing::choose_none, crate::proofs::Choosing::choose_turn, crate::proofs::Choosing::choose_done))]
+pub(crate) fn choose_pair(pairs: &[u64], start: u64) -> Pair
+    ensures { span_of result ≡ choose (spans_in pairs.now) start }
 {
     let mut chosen = Pair { start: 0, end: 0 };
-    for i in (0..pairs).rev() {
-        chosen = better_before(pair_at(cell, 2 * i), chosen, start);
+    for i in (0..pairs.len() / 2).rev() {
+        chosen = better_before(pair_at(pairs, 2 * i), chosen, start);
     }
     chosen
 }

@@ -9,6 +9,7 @@ ghost use Rattle.cell.specs.Pairs.{span_of};
 ghost use Rattle.cell.specs.Calls.{is_cell, StepReady, Stepped, Renewed};
 ghost use Rattle.cell.specs.Calls.{kept_after};
 
+use crate::kept::Kept;
 use crate::pair::Pair;
 
 // Whether n words are the cell of a `;` whose right operand has y possible starts, at most 62.
@@ -50,6 +51,7 @@ pub(crate) fn chain_step(cell: &mut [u64], starts: &[u64], x: u64, y: u64, end: 
 }
 
 // The answer, and then the kept pairs as they become. Without possible starts of y there is no pair but latest.
+#[tactic(auto, using(detector::proofs::Order::gather_length, crate::proofs::KeptLaws::kept_stored))]
 pub(crate) fn choose_and_keep(cell: &mut [u64], starts: &[u64], y: u64) -> u64
     requires { (length starts.now ≤ 62) × (length cell.old ≡ 2 * (1 + length starts.now)) }
     ensures { (result ≡ (choose (pairs_of cell.old) y).start) × (cell.new ≡ kept_after starts.now cell.old) }
@@ -58,8 +60,10 @@ pub(crate) fn choose_and_keep(cell: &mut [u64], starts: &[u64], y: u64) -> u64
         return start_before(cell[0], cell[1], y);
     }
     let pairs = crate::pair::pairs_in(cell);
-    let answer = crate::pair::choose_pair(cell, pairs, y);
-    crate::kept::gather_kept(cell, pairs, starts);
+    let answer = crate::pair::choose_pair(pairs, y);
+    let mut kept = Kept::new();
+    crate::kept::gather_pairs(pairs, starts, &mut kept);
+    crate::kept::store_kept(cell, &kept);
     answer.start
 }
 

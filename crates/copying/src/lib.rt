@@ -4,7 +4,7 @@
 ghost use Rattle.std.specs.Prelude.{◌≡◌, ◌≤◌, ◌++◌, length, take, drop};
 ghost use Rattle.copying.specs.Copy.{CopyOf};
 
-// Copies all of `from` to the front of `to`. The rest of `to` stays as it was.
+// Copies all of `from` to the front of `to`. The rest of `to` stays as it was. `copy_from_slice` alone wants slices of one length.
 pub fn copy(from: &[u8], to: &mut [u8])
     requires { length from.now ≤ length to.old }
     ensures { to.new ≡ take (length from.now) from.now ++ drop (length from.now) to.old }
@@ -20,6 +20,6 @@ pub fn copy_if_room(from: &[u8], to: &mut [u8]) -> Result<usize, usize>
     if to.len() < need {
         return Err(need);
     }
-    to[..need].copy_from_slice(from);
+    copy(from, to);
     Ok(need)
 }

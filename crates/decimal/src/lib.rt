@@ -65,6 +65,7 @@ impl<const N: usize> Backwards<N> {
         ensures counts { length self.new ≡ min N (length self.old + length (decimal n)) }
     {
         let mut left = n;
+        // no count of turns: the number itself goes down by tenths
         while left > 9 {
             self.byte((left % 10) as u8 + b'0');
             left /= 10;

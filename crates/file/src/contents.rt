@@ -78,7 +78,7 @@ pub(crate) fn place_in(contents: &[u8]) -> Place
     }
 }
 
-// Copies the numbers of entries out of the contents.
+// Copies the numbers of entries out of the contents: one byte of each twelve.
 #[tactic(auto, using(crate::proofs::Turns::copied_all))]
 fn copy_counts(count: usize, rest: &[u8], counts: &mut [u8])
     requires held { Held count rest.now }

@@ -1,5 +1,5 @@
 -- The ways that the reader's functions end: one lemma for each answer. Assumes nothing.
-use mathlib.Core.Path.{◌≡◌, refl, sym, ap, ◌∙◌, subst}
+use mathlib.Core.Path.{◌≡◌, sym, ap, ◌∙◌, subst}
 use Prim.Native.Nat.{ℕ, ◌+◌, ◌-◌, ◌*◌, ◌%◌, ◌^◌, ◌<◌, ◌≤◌, min}
 use native.Mathlib.Omega.{arith}
 use mathlib.Core.List.{List, [], ◌∷◌}
@@ -90,9 +90,6 @@ pub record LettersRead (s : List ℕ) (w n i : ℕ) : Type 0 where
   pub fits : w < 2 ^ n
   pub types : n ≤ letters
   pub reads : word_from n w (drop i s) ≡ word_of s
-
-pub letters_start : (s : List ℕ) → LettersRead s 0 0 0
-letters_start s = record { fits = omega arith; types = omega arith; reads = refl }
 
 module _ {s : List ℕ} {w n i : ℕ} (g : LettersRead s w n i) where
   module _ (h : length s ≤ i) where

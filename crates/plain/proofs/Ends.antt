@@ -1,7 +1,7 @@
 -- The pattern that each entry ends, as a walk over the entries with the trees so far finds it. Assumes nothing.
-use mathlib.Core.Path.{◌≡◌, refl, sym, ap, ◌∙◌}
-use mathlib.Core.List.{List, [], ◌∷◌, ◌++◌, append_assoc, append-nil}
-use Prim.Native.Nat.{ℕ, ◌+◌, ◌-◌, ◌<◌}
+use mathlib.Core.Path.{◌≡◌, refl, sym, ap, ap₂, ◌∙◌}
+use mathlib.Core.List.{List, [], ◌∷◌, ◌++◌, map, append_assoc, append-nil}
+use Prim.Native.Nat.{ℕ, zero, suc, ◌+◌, ◌-◌, ◌<◌}
 use native.Mathlib.Omega.{arith}
 use lib.ListN.{get_or, length, length-append, get_or-append}
 use Rattle.rules.specs.declared.Op.{Op}
@@ -68,33 +68,21 @@ module _ (f : ℕ → Entry) (n i : ℕ) (h : i < n) where
       → ends (entries_by f i (n - i)) (x ∷ st) ≡ within x a ∷ ends left (within x a ∷ st)
   ends_within a x st e = turned (Within a) (x ∷ st) e ∙ unfold ends in refl
 
--- the trees on a stack, each by the place in a list of the pattern that it is
-abbrev pub Stands : List Pattern → List ℕ → List Pattern → Type 0
-Stands done [] [] = Unit {0}
-Stands done [] (p ∷ ps) = ⊥
-Stands done (k ∷ ks) [] = ⊥
-Stands done (k ∷ ks) (p ∷ ps) = (k < length done) × (get_or done k (event 0) ≡ p) × Stands done ks ps
+-- each entry that ends a tree is below i
+abbrev pub Below : ℕ → List ℕ → Type 0
+Below i [] = Unit {0}
+Below i (k ∷ ks) = (k < i) × Below i ks
+
+pub below_more : (i : ℕ) (ks : List ℕ) → Below i ks → Below (i + 1) ks
+below_more i [] h = tt
+below_more i (k ∷ ks) h = (omega (arith, h.0), below_more i ks h.1)
+
+-- the trees that the entries of ks end
+abbrev pub patterns : List Pattern → List ℕ → List Pattern
+patterns done = map (λ k. get_or done k (event 0))
 
 -- one pattern more leaves those before it
-pub stands_more : (done : List Pattern) (q : Pattern) (ks : List ℕ) (ps : List Pattern) → Stands done ks ps → Stands (done ++ (q ∷ [])) ks ps
-stands_more done q [] [] s = tt
-stands_more done q [] (p ∷ ps) s = absurd s
-stands_more done q (k ∷ ks) [] s = absurd s
-stands_more done q (k ∷ ks) (p ∷ ps) s = (
-  omega (arith, s.0, length-append done (q ∷ [])),
-  get_or-append done (q ∷ []) (event 0) k s.0 ∙ s.1,
-  stands_more done q ks ps s.2,
-)
-
--- the top of a stack of trees
-pub record One (done : List Pattern) (k : ℕ) (ks : List ℕ) (ps : List Pattern) : Type 0 where
-  pub x : Pattern
-  pub st : List Pattern
-  pub same : ps ≡ x ∷ st
-  pub inside : k < length done
-  pub is : get_or done k (event 0) ≡ x
-  pub below : Stands done ks st
-
-pub stands_one : (done : List Pattern) (k : ℕ) (ks : List ℕ) (ps : List Pattern) → Stands done (k ∷ ks) ps → One done k ks ps
-stands_one done k ks [] s = absurd s
-stands_one done k ks (p ∷ ps) s = record { x = p; st = ps; same = refl; inside = s.0; is = s.1; below = s.2 }
+pub patterns_more : (done : List Pattern) (q : Pattern) (ks : List ℕ) → Below (length done) ks → patterns (done ++ (q ∷ [])) ks ≡ patterns done ks
+patterns_more done q [] h = refl
+patterns_more done q (k ∷ ks) h =
+    ap₂ (λ (p : Pattern) (l : List Pattern). p ∷ l) (get_or-append done (q ∷ []) (event 0) k h.0) (patterns_more done q ks h.1)

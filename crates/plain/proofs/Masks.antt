@@ -8,7 +8,7 @@ use lib.Bits.{bit_or}
 use lib.ListN.{get_or, set, length, length-set}
 use lib.Seq.{get_or-set_same, get_or-set_other}
 use Rattle.plain.specs.Row.{Exactly}
-use Rattle.plain.specs.inner.Fill.{Before, Seen}
+use Rattle.plain.specs.inner.Fill.{Before}
 use Rattle.plain.proofs.Sets.{before_none, before_more}
 
 -- the masks up to place i are made, and `sum` is the last of them
@@ -44,6 +44,3 @@ seeing_more rows masks sum i h m = record {
     at : (k : ℕ) → k ≤ i + 1 → Dec (k ≡ i + 1) → Exactly (get_or (set masks (i + 1) next) k 0) (Before rows k)
     at k l (yes e) = rw (e, get_or-set_same masks (i + 1) next 0 (omega (arith, m.long))) made
     at k l (no e) = rw (get_or-set_other masks (i + 1) k next 0 e) (m.masked k (omega arith))
-
-pub seeing_all : (rows masks : List ℕ) (sum i : ℕ) → 64 ≤ i → Seeing rows masks sum i → Seen rows masks
-seeing_all rows masks sum i h m = record { long = m.long; masked = λ k l. m.masked k (omega arith) }

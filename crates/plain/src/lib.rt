@@ -11,7 +11,8 @@ ghost use Rattle.plain.specs.inner.Fill.{Before, Seen, Lesser, Masked, Filled, F
 
 use body::Entry;
 use refusal::Refusal;
-use rules::{ENTRY_BYTES, MOST_WORDS, Op};
+use rules::{ENTRY_BYTES, MOST_ENTRIES, MOST_WORDS, Op};
+use stacks::Stack;
 
 // The rows of an entry, one a tick.
 const ROWS: usize = MOST_WORDS;
@@ -49,28 +50,30 @@ pub fn instances(row: u64) -> u32
     row.count_ones()
 }
 
-// The rows of every entry of a sound body; `tops` has the places of the trees that no entry has taken yet.
+// The rows of every entry of a sound body.
+#[tactic(auto, using(crate::proofs::Loops::one_below, crate::proofs::Loops::two_below))]
 fn fill_rows(body: &[u8], events: &[u32], rows: &mut [u64])
     requires { Ready body.now events.now rows.old }
     ensures { RowsAfter body.now events.now rows.old rows.new (Ok tt) }
 {
-    let mut tops = [0usize; 63];
-    let mut d: usize = 0;
+    // the entry that ends each tree, of which there are no more than entries
+    let mut trees: Stack<usize, MOST_ENTRIES> = Stack::new(0);
     for k in 0..body.len() / ENTRY_BYTES {
         match body::entry_at(body, k) {
             Entry::Letter(kind) => {
                 fill_letter(rows, events, kind, k);
-                tops[d] = k;
-                d += 1;
+                trees.push(k);
             }
             Entry::Pair(op) => {
-                fill_pair(rows, op, tops[d - 2], tops[d - 1], k);
-                tops[d - 2] = k;
-                d -= 1;
+                let y = trees.pop();
+                let x = trees.pop();
+                fill_pair(rows, op, x, y, k);
+                trees.push(k);
             }
             Entry::Within(limit) => {
-                fill_within(rows, limit, tops[d - 1], k);
-                tops[d - 1] = k;
+                let x = trees.pop();
+                fill_within(rows, limit, x, k);
+                trees.push(k);
             }
             Entry::Wrong => {}
         }
@@ -196,6 +199,7 @@ fn seen(rows: &[u64; ROWS]) -> [u64; ROWS + 1]
 }
 
 // Row e of an operator, from its operands' rows and their masks.
+// They come one by one: a struct of an operand's rows and masks is copied, and makes the evaluator a sixth slower.
 fn pair_row(op: Op, x: &[u64], y: &[u64], left: &[u64], right: &[u64], e: usize) -> u64
     requires { Masked x.now left.now e × Masked y.now right.now e }
     ensures { Exactly result (λ s. Rule op (Shown x.now) (Shown y.now) s e) }

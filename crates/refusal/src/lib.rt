@@ -55,7 +55,7 @@ impl Refusal {
         }
     }
 
-    // The refusal's place, 0 where the table names none.
+    // The refusal's place, 0 where the table names none, as the status word has it.
     pub fn place(self) -> u64
         ensures { result ≡ place_of self }
     {
@@ -71,7 +71,7 @@ impl Refusal {
         }
     }
 
-    // The entry that `Body` names, 0 for every other refusal.
+    // The entry that `Body` names, 0 for every other refusal, as the status word has it.
     pub fn entry(self) -> u64
         ensures { result ≡ entry_named self }
     {

@@ -10,7 +10,7 @@ pub(crate) fn watch(rt: HostRuntime, body: &[u8], ticks: &[u8]) -> io::Result<()
     fields::end_line(rt)
 }
 
-// The answer at each `tick:events` of a line.
+// The answer at each `tick:events` of a line. A turn takes two fields, so there is no index to count.
 fn answers(rt: HostRuntime, state: &mut [u64], ticks: &[u8]) -> io::Result<()> {
     let mut rest = ticks;
     while !rest.is_empty() {

@@ -33,7 +33,7 @@ pub fn open(file: &[u8], states: &mut [u64]) -> Result<(), Refusal>
 }
 
 // Takes a tick with its word of events in each of `count` states, and writes an answer for each: start + 1, or 0 for none.
-// If any state is refused, none moves.
+// If any state is refused, none moves. States and answers are words, as C lends them.
 pub fn tick(
     states: &mut [u64],
     count: u64,

@@ -1,7 +1,7 @@
 -- The ways that `read_pattern` ends: one lemma for each answer. Assumes nothing.
 use Rattle.std.proofs.Common.{◌≡◌, ℕ, ◌*◌, ◌<◌, ◌≤◌, List, [], ◌++◌, length, take, drop, replicate, Result, Ok, Err, sym, refl, ap, ◌∙◌, subst, arith, drop_of_length-le, take_at}
 use Rattle.std.specs.Result.{MatchResult, IsErrAnd}
-use lib.Seq.{sets-eq, length-sets}
+use lib.Seq.{sets-eq}
 use Rattle.rules.proofs.Impossible.{impossible}
 use Rattle.rules.specs.Pattern.{size}
 use Rattle.rules.specs.Limits.{argument_bytes, most_entries, most_text}
@@ -49,10 +49,6 @@ module _ (s : List ℕ) (short : length s ≤ most_text) where
     pub many_entries : length s ≤ end → most_entries < m → IsMany s
     unfolding is_text
     many_entries h g = record { some = is_text h; many = omega (arith, l.count) }
-
-    -- what was made is as long as it was, and the body stands at its start
-    pub made_length : length b ≡ body_length
-    made_length = ap length (l.written refl) ∙ length-sets (replicate body_length 0) (0 * entry_length) (encode argument_bytes l.tree)
 
     made : m ≤ most_entries → take (m * entry_length) b ≡ encode argument_bytes l.tree
     made g =

@@ -26,15 +26,16 @@ impl Made {
 
     // Writes one more entry, its argument low byte first, where there is room for 63; any further one is only counted.
     #[tactic(auto, using(crate::proofs::Entries::entry_put, crate::proofs::Entries::entry_out))]
-    pub(crate) fn push(&mut self, op: u8, argument: u32)
-        requires { self.old.entries + 1 < 2 ^ 64 }
+    pub(crate) fn push(&mut self, op: u8, argument: u64)
+        requires counted { self.old.entries + 1 < 2 ^ 64 }
+        requires fits { argument < 2 ^ 32 }
         ensures written { Written self.old.bytes self.new.bytes self.old.entries (op ∷ bytes_of argument_bytes argument) }
         ensures counted { self.new.entries ≡ self.old.entries + 1 }
     {
         if self.entries < MOST_ENTRIES {
             let at = self.entries * ENTRY_BYTES;
             self.bytes[at] = op;
-            self.bytes[at + 1..at + ENTRY_BYTES].copy_from_slice(&argument.to_le_bytes());
+            self.bytes[at + 1..at + ENTRY_BYTES].copy_from_slice(&(argument as u32).to_le_bytes());
         }
         self.entries += 1;
     }

@@ -11,7 +11,7 @@ use rules::{LAST_TICK, Op};
 #[derive(Clone, Copy, Debug, PartialEq, Eq)]
 struct Number {
     end: usize,
-    value: u32,
+    value: u64,
 }
 
 // What may follow a first operand: an operator, or `@`.
@@ -33,7 +33,7 @@ pub(crate) fn expression(text: &[u8], at: usize, made: &mut Made) -> Result<usiz
     }
     let byte = text[at];
     if let Some(kind) = crate::letter(byte) {
-        made.push(0, u32::from(kind));
+        made.push(0, u64::from(kind));
         return Ok(at + 1);
     }
     if byte != b'(' {
@@ -72,6 +72,7 @@ fn tail(text: &[u8], at: usize, made: &mut Made) -> Result<usize, usize>
 }
 
 // Reads the number that starts at `at`. An error is the place where none could go on.
+// It is not one function with the reader of `line`, which caps too large a number and knows no place.
 fn read_number(text: &[u8], at: usize) -> Result<Number, usize>
     requires { at ≤ length text.now }
     ensures { NumberAt text.now at result }
@@ -88,16 +89,15 @@ fn read_number(text: &[u8], at: usize) -> Result<Number, usize>
             value: 0,
         });
     }
-    let mut value = u32::from(first);
+    let mut value = u64::from(first);
     for end in at + 1..text.len() {
         let Some(d) = crate::digit(text[end]) else {
             return Ok(Number { end, value });
         };
-        let more = u64::from(value) * 10 + u64::from(d);
-        if more > LAST_TICK {
+        value = value * 10 + u64::from(d);
+        if value > LAST_TICK {
             return Err(end);
         }
-        value = more as u32;
     }
     Ok(Number {
         end: text.len(),

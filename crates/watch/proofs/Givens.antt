@@ -87,11 +87,6 @@ along_more {p' = p'} {chunk = chunk} {d' = d'} {at = at} a long x =
       inside = omega (arith, chunk_inside y, a.inside);
     }
 
--- and the whole of it, or as far as nothing failed
-pub along_ends : {first p : Progress} {chunk part₀ part state₀ state : List ℕ} {at : ℕ} → Along first chunk part₀ part state₀ state at p
-    → (p.fault ≡ None → at ≡ length chunk) → ChunkTaken first chunk part₀ part state₀ state p
-along_ends {at = at} a e = record { used = at; bytes = a.bytes; given = a.given; whole = e }
-
 -- before anything is read
 pub input_none : (part state : List ℕ) (p : Progress) → p.taken.run ≡ fresh → p.taken.held ≡ 0 → InputTaken part part state state p
 input_none part state p e h = record { input = []; bytes = []; given = rw (e, h) none }

@@ -26,7 +26,7 @@ impl fmt::Display for Fault {
 }
 
 // The run, the bytes held of a line that has not ended yet, the bytes used of the input last taken and those handed to the writer for it; and
-// what failed.
+// what failed. It is no `Result`: after a fault the run and what was handed over still count.
 #[derive(Clone, Copy)]
 struct Progress {
     taken: Chunked,
@@ -132,7 +132,7 @@ fn take_read(
     }
 }
 
-// Takes all of a chunk, unless a write fails.
+// Takes all of a chunk, unless a write fails. A turn says how far it came, so there is no index to count.
 fn take_chunk(rt: HostRuntime, first: Progress, chunk: &[u8], arrays: &mut Arrays) -> Progress
     requires { first.fault ≡ None }
     ensures { ChunkTaken first chunk.now arrays.old.part arrays.new.part arrays.old.state arrays.new.state result }

@@ -4,7 +4,7 @@ ghost use Rattle.watcher.specs.State.{header};
 ghost use Rattle.watcher.specs.inner.Walk.{entry_in};
 ghost use Rattle.watcher.specs.inner.Form.{Entered, CellReady, CellEnds, judged_end};
 
-use crate::possible::Possible;
+use crate::possible::{self, Possible};
 use crate::{HEADER, NEXT};
 use body::Entry;
 use rules::Op;
@@ -25,13 +25,13 @@ pub(crate) fn judged_end(state: &[u64], n: usize) -> Option<usize>
     requires { Entered state.now n }
     ensures { result ≡ judged_end state.now }
 {
-    let mut possible = Possible::new();
+    let mut possible = Possible::new(0);
     let mut at = HEADER + n;
     for i in 0..n {
         match entry_in(state, i) {
             Entry::Letter(_) => possible.push(0),
             Entry::Pair(op) if 2 <= possible.len() => {
-                at = cell_end(op, state, at, possible.merge(op))?;
+                at = cell_end(op, state, at, possible::merge(&mut possible, op))?;
             }
             Entry::Within(_) if 1 <= possible.len() => {}
             _ => return None,

@@ -115,14 +115,15 @@ pub fn extent(state: &[u64]) -> Option<usize>
     form::judged_end(state, n)
 }
 
-// The next tick that the state at the front of a slice allows, 0 if the slice ends before that word.
+// The next tick that the state at the front of a slice allows, 0 if the slice ends before that word. It is no `Option`: the call cannot fail.
 pub fn next_tick(state: &[u64]) -> u64
     ensures { result ≡ next_of state.now }
 {
     state.get(NEXT).copied().unwrap_or(0)
 }
 
-// Takes a tick that the state is known to accept, and gives start + 1 of the window that ends at the tick, or 0 for none.
+// Takes a tick that the state is known to accept, and gives start + 1 of the window that ends at the tick, or 0 for none, as a state's words and
+// the calls for C have it.
 // This is the call for crates that have judged the state themselves; all others call `tick`.
 // Arrays are cleared at each call, so a small pattern has small ones.
 pub fn step(state: &mut [u64], t: u64, events: u32) -> u64
@@ -195,12 +196,12 @@ fn cells_needed(body: &[u8]) -> usize
     requires { check_of argument_bytes body.now ≡ Ok tt }
     ensures { (result ≡ cells_needed body.now) × (result ≤ 7938) }
 {
-    let mut possible = Possible::new();
+    let mut possible = Possible::new(0);
     let mut words: usize = 0;
     for i in 0..body.len() / ENTRY_BYTES {
         match body::entry_at(body, i) {
             Entry::Letter(_) => possible.push(0),
-            Entry::Pair(op) => words += cell::size(op, possible.merge(op)),
+            Entry::Pair(op) => words += cell::size(op, possible::merge(&mut possible, op)),
             Entry::Within(_) => {}
             Entry::Wrong => {}
         }

@@ -29,7 +29,7 @@ impl<'a> Model for Stack<'a> {
 
 impl<'a> Stack<'a> {
     // No answer.
-    #[tactic(auto, unfolding(body::specs::inner::Stack::stack_by))]
+    #[tactic(auto, unfolding(crate::specs::inner::Step::stack_by))]
     pub(crate) fn new(
         answers: &'a mut [u64],
         base: &'a mut [usize],

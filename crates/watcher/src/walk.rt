@@ -51,7 +51,7 @@ pub(crate) fn steps(state: &mut [u64], ticks: &[u64], events: &[u32], answers: &
     }
 }
 
-// Steps the entries in order, with a stack in arrays that are lent for it.
+// Steps the entries in order, with a stack in arrays that are lent for it, for small patterns small ones.
 fn step_over(
     state: &mut [u64],
     t: u64,

@@ -57,9 +57,6 @@ module _ {p piece p' : List ℕ} {from n : ℕ} (a : Appended p from piece p' n)
   pub appended_first : take n p' ≡ take most_held (take from p ++ piece)
   appended_first = ap (take n) a.holds ∙ take_at _ _ n (sym a.counts)
 
-  pub appended_few : n ≤ most_held
-  appended_few = omega (arith, a.counts, length-take most_held (take from p ++ piece))
-
 -- the line of the bytes held and a piece, joined behind nothing
 pub joined_line : {held line₀ line₁ piece line₂ : List ℕ} {from n : ℕ} → length held ≤ most_held → Appended line₀ 0 held line₁ from
     → Appended line₁ from piece line₂ n → take n line₂ ≡ take most_held (held ++ piece)

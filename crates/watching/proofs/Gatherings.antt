@@ -37,10 +37,6 @@ pub record Gathering (input : List ℕ) (from : ℕ) (ts ws : List ℕ) (n at : 
   pub events_long : length ws ≡ most_ticks
   pub leads : {us vs left : List ℕ} → TickLines (drop at input) us vs left → TickLines (drop from input) (take n ts ++ us) (take n ws ++ vs) left
 
-pub gathering_start : {input ts ws : List ℕ} {from : ℕ} → from ≤ length input → length ts ≡ most_ticks → length ws ≡ most_ticks
-    → Gathering input from ts ws 0 from
-gathering_start f g h = record { few = omega arith; inside = f; ticks_long = g; events_long = h; leads = λ k. k }
-
 module _ {input ts ws : List ℕ} {from n at : ℕ} (x : Gathering input from ts ws n at) where
   pub gathering_more : {t w end : ℕ} → n < most_ticks → IsFound input at t w end → Gathering input from (set ts n t) (set ws n w) (n + 1) (end + 1)
   gathering_more {t} {w} {end} h i =

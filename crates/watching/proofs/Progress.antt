@@ -125,10 +125,6 @@ no_progress {input} {s} {d} {p} g = record {
   writes = record { counts = omega arith; fits = g.fits; written = sym (take-append-drop p.written d) };
 }
 
--- others can follow
-pub progress_ready : {run : Run} {h input s s₁ d d₁ : List ℕ} {from at : ℕ} {p : Chunked} → Progress run h from at input s s₁ d d₁ p → Ready input d₁ p
-progress_ready g = record { none = g.none; inside = g.inside; fits = omega (arith, g.writes.fits, writes_length g.writes) }
-
 -- the next line in an input, cut, where nothing is held
 pub next_progress : {input s s₁ d e : List ℕ} {end n : ℕ} {p : Chunked} {t : Taken} → LineReady input d end p → n ≡ min (end - p.used) most_held
     → IsTaken p.run (mid_of p.used (p.used + n - p.used) input) s s₁ (mid_of p.written (length d - p.written) d) e t

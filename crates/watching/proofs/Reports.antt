@@ -98,16 +98,6 @@ pub record Reporting (run : Run) (ts answers d d' : List ℕ) (later : Run) (wri
   pub holds : Holds later (length ts - i)
 
 module _ {run : Run} {ts answers d : List ℕ} (r : ReportAllReady run ts answers d) where
-  pub reporting_start : Reporting run ts answers d d run 0 0
-  reporting_start = record {
-    inside = omega arith;
-    bytes = [];
-    leads = λ k. k;
-    writes = record { counts = refl; fits = omega arith; written = refl };
-    short = omega arith;
-    holds = record { windows = omega (arith, r.holds.windows); ticks = omega (arith, r.holds.ticks) };
-  }
-
   module _ {d' : List ℕ} {later : Run} {written i : ℕ} (x : Reporting run ts answers d d' later written i) where
     pub reporting_end : length ts ≤ i → IsAllReported run ts answers d d' (record { run = later; written = written })
     reporting_end h =
@@ -120,13 +110,6 @@ module _ {run : Run} {ts answers d : List ℕ} (r : ReportAllReady run ts answer
         }
 
     module _ (h : i < length ts) where
-      pub reporting_ready : ReportReady later (get_or ts i 0) (get_or answers i 0) (mid_of written (length d' - written) d')
-      reporting_ready = record {
-        fair = r.fair i h;
-        holds = record { windows = omega (arith, x.holds.windows); ticks = omega (arith, x.holds.ticks) };
-        room = rw (lent_rest written d') (omega (arith, length-drop written d', writes_length x.writes, r.room, x.short));
-      }
-
       pub reporting_more : {e : List ℕ} {taken : Taken} → IsReported later (get_or ts i 0) (get_or answers i 0) (mid_of written (length d' - written) d') e taken
           → Reporting run ts answers d (put_mid written (length d' - written) d' e) taken.run (written + taken.written) (i + 1)
       reporting_more {e} {taken} t =

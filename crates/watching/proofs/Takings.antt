@@ -39,10 +39,6 @@ not_fresh n Ended h other e = omega arith
 pub part_first : (n : ℕ) (body : List ℕ) → take (n - 0) body ≡ take n body
 part_first n body = let e : n - 0 ≡ n = omega arith in rw e
 
--- a state opened with such a part
-pub part_opened : (n : ℕ) (body s s' : List ℕ) (o : Result (Unit {0}) Refusal) → OpenAnswers (take (n - 0) body) s s' o → OpenAnswers (take n body) s s' o
-part_opened n body s s' o x = rw (part_first n body) at x
-
 -- ---- answers
 
 pub is_silent : (run run' : Run) (d : List ℕ) → run' ≡ next_run run run.tally → IsActed run (Ok None) d d (record { run = run'; written = 0 })
@@ -104,6 +100,3 @@ pub is_finished : (run : Run) (d d' : List ℕ) (b : ℕ) (w : Result ℕ Refusa
     → IsWritten (finish_line run) d d' b
 is_finished run d d' b w q p fw ft h eb =
     simp (eq-eqb run.phase 1 p, eb) (tally_written d d' w run.tally.windows run.tally.ticks fw ft q h)
-
-pub is_unfinished : (run : Run) (d : List ℕ) → (run.phase ≡ 1 → ⊥) → IsWritten (finish_line run) d d 0
-is_unfinished run d p = simp (ne_eqb run.phase 1 p) (nothing_written d)

@@ -11,7 +11,7 @@ use line::Tick;
 const MOST_TICKS: usize = 64;
 
 // The bytes that they may write.
-const MOST_REPORTED: usize = 3840;
+const MOST_REPORTED: usize = MOST_TICKS * line::MOST_WRITTEN;
 
 // A tally with both numbers below this has room for the windows of all these lines.
 const FAR: u64 = 0x8000_0000_0000_0000;
@@ -31,6 +31,7 @@ pub(crate) struct Gathered {
 }
 
 // Takes lines of ticks from a place on, many at once, as long as there is room for all that they may write.
+// A turn says how far it came, so there is no index to count.
 pub(crate) fn take_batches(
     first: Chunked,
     input: &[u8],

@@ -86,6 +86,7 @@ pub fn start() -> Run
 }
 
 // Takes a chunk of input: every line that ends in it, after the bytes held of the line before. What is left of the last line is held.
+// `held` and `part` come one by one, since `InputPrints` and `OneChunk` speak of each.
 pub fn take_chunk(
     run: Run,
     held: usize,

@@ -98,7 +98,7 @@ fn take_lines(first: Chunked, input: &[u8], state: &mut [u64], out: &mut [u8]) -
     take_each(many, input, state, out)
 }
 
-// The same, one by one.
+// The same, one by one. A turn says how far it came, so there is no index to count.
 fn take_each(first: Chunked, input: &[u8], state: &mut [u64], out: &mut [u8]) -> Chunked
     requires { Ready input.now out.old first }
     ensures { LinesTaken input.now state.old state.new out.old out.new first result }
@@ -161,11 +161,11 @@ pub(crate) fn line_end(input: &[u8], from: usize) -> usize
     ensures { (result ≡ from + line_length (drop from input.now)) × (result ≤ length input.now) }
 {
     let rest = &input[from..];
-    from + feed(rest).unwrap_or(rest.len())
+    from + line_feed(rest).unwrap_or(rest.len())
 }
 
 // The place of the first line feed.
-fn feed(input: &[u8]) -> Option<usize>
+fn line_feed(input: &[u8]) -> Option<usize>
     ensures { result ≡ position (λ c. c == 10) input.now }
 {
     input.iter().position(|byte| *byte == b'\n')

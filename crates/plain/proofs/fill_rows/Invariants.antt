@@ -3,4 +3,4 @@ use Rattle.plain.proofs.Loops.{Filling}
 use Rattle.plain.proofs.fill_rows.Given as goal
 
 abbrev pub invariant-loop-k : goal.invariant-loop-k
-invariant-loop-k l = Filling l.body l.events l.initial.rows l.k-end l.rows l.tops l.d l.k
+invariant-loop-k l = Filling l.body l.events l.initial.rows l.k-end l.rows l.trees l.k

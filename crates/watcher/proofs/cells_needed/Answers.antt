@@ -8,7 +8,7 @@ use Rattle.watcher.proofs.cells_needed.Goals as goal
 use Rattle.watcher.proofs.cells_needed.Goals.{in-Letter, in-Pair, in-Within, in-Wrong, After-size-words}
 
 -- an operator's words are added
-added : (c : After-size-words) → Rooming c.args.body.now (c.loop-i.i + 1) (c.loop-i.words + c.size-words.result) c.merge.new.self
+added : (c : After-size-words) → Rooming c.args.body.now (c.loop-i.i + 1) (c.loop-i.words + c.size-words.result) c.merge.new.possible
 added c =
     rw (c.size-words.ensures, c.merge.ensures.merged, c.merge.ensures.right)
     (rooming_merge c.loop-i.invariant c.loop-i-test.true _ (sym c.entry_at.ensures ∙ c.in-Pair.is))

@@ -8,10 +8,9 @@ use lib.Seq.{length-take-le}
 use Rattle.rules.specs.declared.Op.{Op}
 use Rattle.cell.specs.Cell.{cell_words, cell_answer, cell_after, starts_after}
 use Rattle.cell.proofs.WordLaws.{length_after, length_starts_after}
-use Rattle.body.proofs.Stacks.{stack_pop}
+use Rattle.watcher.proofs.walk.Stacks.{stack_pop, length_stack}
 use Rattle.watcher.specs.inner.Walk.{Value, within_answer, last_answer}
 use Rattle.watcher.specs.inner.Step.{segment, restricted, value_at, values, Laid, starts_on, PairFits, PairReady, PairDone, Stacked, stack_view, IsStack, holding, Placed, Replaces}
-use Rattle.watcher.proofs.Arrays.{length_stack}
 use Rattle.watcher.proofs.walk.Segments.{laid_push, values_push, laid_top, values_top, values_two, laid_pair, values_pair, length_segment, starts_below}
 use Rattle.watcher.proofs.walk.Pairing.{starts_after_own}
 

@@ -7,8 +7,8 @@ use native.Mathlib.Omega.{arith}
 use lib.ListN.{length, get_or, take, drop, set, length-append, length-drop, length-set, take-append-drop}
 use lib.Seq.{take_at, take-append-le, drop-append-le, length-take-le, get_or-set_same, get_or-set_other}
 use borrow.Author.Count.{below_more}
-use Rattle.body.specs.inner.Stack.{stack_by}
-use Rattle.body.proofs.Stacks.{stack_ext, stack_push, stack_pop}
+use Rattle.watcher.specs.inner.Step.{stack_by}
+use Rattle.watcher.proofs.walk.Stacks.{stack_ext, stack_push, stack_pop}
 use Rattle.watcher.specs.inner.Walk.{Value}
 use Rattle.watcher.specs.inner.Step.{segment, over, value_at, values, Laid, starts_on}
 

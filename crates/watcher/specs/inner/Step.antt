@@ -1,9 +1,8 @@
 -- What the functions of a tick promise each other; no public call cites these. Assumes nothing: these are definitions.
-use Rattle.std.specs.Prelude.{◌≡◌, true, Ok, List, [], ◌∷◌, ◌++◌, ℕ, ◌+◌, ◌-◌, ◌*◌, ◌≤◌, ◌<◌, length, get_or, take, drop, set}
+use Rattle.std.specs.Prelude.{◌≡◌, true, Ok, List, [], ◌∷◌, ◌++◌, ℕ, zero, suc, ◌+◌, ◌-◌, ◌*◌, ◌≤◌, ◌<◌, length, get_or, take, drop, set}
 use Rattle.rules.specs.declared.Op.{Op}
 use Rattle.rules.specs.declared.Op.TheVariants.{Either, Both, Without, Chain}
 use Rattle.rules.specs.Limits.{ticks}
-use Rattle.body.specs.inner.Stack.{stack_by}
 use Rattle.cell.specs.Cell.{cell_words, possible, cell_answer, cell_after, starts_after}
 use Rattle.watcher.specs.State.{next_of}
 use Rattle.watcher.specs.inner.Walk.{Value, within_answer, formed, answer_of, words_after, answers_fed, words_fed}
@@ -62,7 +61,12 @@ pub record Laid (deep many : ℕ) (answers base starts : List ℕ) (d : ℕ) : T
 abbrev pub value_at : List ℕ → List ℕ → List ℕ → ℕ → Value
 value_at answers base starts k = (get_or answers k 0, segment base starts k)
 
--- what stands at the d lowest places, the last one first
+-- what f has at the d lowest places, the last one first
+unfoldable pub stack_by : {X : Type 0} → (ℕ → X) → ℕ → List X
+stack_by f zero = []
+stack_by f (suc d) = f d ∷ stack_by f d
+
+-- what stands at the d lowest places
 abbrev pub values : List ℕ → List ℕ → List ℕ → ℕ → List Value
 values answers base starts d = stack_by (value_at answers base starts) d
 

@@ -1,12 +1,13 @@
 -- `cell::store_kept` meets its contract. The loop's invariant: the first i of the new words stand after latest.
 -- Assumes nothing.
 use mathlib.Core.Path.{◌≡◌}
-use Prim.Native.Nat.{◌+◌, ◌≤◌}
+use Prim.Native.Nat.{◌+◌, ◌-◌, ◌/◌, ◌≤◌}
 use lib.ListN.{length}
 use lib.Seq.{paste}
-use Rattle.cell.specs.Calls.{new_words}
+use Rattle.cell.specs.Words.{kept_words}
 use Rattle.cell.proofs.kept.store_kept.Given as goal
 
 abbrev pub invariant-loop-i : goal.invariant-loop-i
 invariant-loop-i l =
-    (l.i + 2 ≤ length l.initial.cell) × (length l.cell ≡ length l.initial.cell) × (l.cell ≡ paste l.initial.cell 2 (new_words l.initial.cell l.kept l.count) l.i)
+    let c = l.initial.cell in
+    (l.i + 2 ≤ length c) × (length l.cell ≡ length c) × (l.cell ≡ paste c 2 (kept_words (length c / 2 - 1) l.kept) l.i)

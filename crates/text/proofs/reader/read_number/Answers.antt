@@ -17,12 +17,12 @@ loop-end-init c = rw c.from-value.ensures (digits_first _ _ _ (omega arith) c.in
 pub returns-in_default-digit : goal.returns-in_default-digit
 returns-in_default-digit c = value_other _ _ _ _ c.loop-end.invariant (omega arith) c.in_default-digit.ensures
 
-pub returns-then-more-gt-LAST_TICK : goal.returns-then-more-gt-LAST_TICK
-returns-then-more-gt-LAST_TICK c = bad_over _ _ _ _ c.loop-end.invariant _ (omega arith) c.in-Some-digit.ensures (omega arith)
+pub returns-then-value-gt-LAST_TICK : goal.returns-then-value-gt-LAST_TICK
+returns-then-value-gt-LAST_TICK c = bad_over _ _ _ _ c.loop-end.invariant _ (omega arith) c.in-Some-digit.ensures (omega arith)
 
 pub loop-end-preserved : goal.loop-end-preserved
 loop-end-preserved c =
-    rw (c.from.ensures, c.from-in-loop-end.ensures)
+    rw c.from.ensures
     (digits_more _ _ _ _ c.loop-end.invariant _ (omega arith) c.in-Some-digit.ensures (omega arith))
 
 pub returns : goal.returns

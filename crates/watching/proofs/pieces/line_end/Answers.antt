@@ -14,7 +14,7 @@ returns c =
     let input = c.args.input.now in
     let from = c.args.from in
     let rest = drop from input in
-    let found = rw (take_rest input from) at c.feed.ensures in
+    let found = rw (take_rest input from) at c.line_feed.ensures in
     let place : c.unwrap_or.result ≡ line_length rest =
     (rw (take_rest input from) at c.unwrap_or.ensures) ∙ ap (λ (o : Option ℕ). unwrap_or o (length rest)) found ∙ feed_found rest in
     (ap (λ (n : ℕ). from + n) place, omega (arith, place, line_inside input from c.requires))

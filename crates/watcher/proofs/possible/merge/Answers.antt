@@ -1,6 +1,6 @@
 use native.Mathlib.Omega.{arith}
 use Rattle.watcher.proofs.Piles.{merged_few}
-use Rattle.watcher.proofs.possible.Possible.merge.Goals as goal
+use Rattle.watcher.proofs.possible.merge.Goals as goal
 
 pub overflow_cast-possible_starts : goal.overflow_cast-possible_starts
 overflow_cast-possible_starts c =
