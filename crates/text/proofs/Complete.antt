@@ -8,7 +8,7 @@ use Rattle.decimal.proofs.Decimals.{tens, decimal_one, decimal_last}
 use Rattle.text.specs.Render.{numbers, most_digits, letter_byte, op_byte, render}
 use Rattle.text.specs.Grammar.{TextOf}
 use Rattle.text.specs.Characters.{letter_of, digit_of}
-use Rattle.text.specs.inner.Machine.{Frame, State, sign_of, grown, step, after_sign, follow, run}
+use Rattle.text.specs.inner.Machine.{Frame, State, sign_of, grown, step, after_sign, follow, read_from}
 use Rattle.text.specs.inner.Machine.Frame.{first, second}
 use Rattle.text.specs.inner.Machine.State.{want, have, limit, number}
 use Rattle.decimal.proofs.Branches.{either_way}
@@ -16,9 +16,9 @@ use Rattle.text.proofs.Numbers.{grown_on}
 use Rattle.text.proofs.Bytes.{letter_of_byte, sign_byte, digit_byte}
 
 -- one byte that leads on
-pub on : (σ τ : State) (c : ℕ) (t : List ℕ) → step σ c ≡ Some τ → run σ (c ∷ t) ≡ run τ t
-unfolding run
-on σ τ c t e = ap (λ (m : Option State). follow m (λ υ. run υ t) (c ∷ t)) e
+pub on : (σ τ : State) (c : ℕ) (t : List ℕ) → step σ c ≡ Some τ → read_from σ (c ∷ t) ≡ read_from τ t
+unfolding read_from
+on σ τ c t e = ap (λ (m : Option State). follow m (λ υ. read_from υ t) (c ∷ t)) e
 
 open_step : (K : List Frame) → step (want K) 40 ≡ Some (want (first ∷ K))
 unfolding letter_of
@@ -47,40 +47,40 @@ shut_step x v K = refl
 
 -- the digits of a number are read as that number
 numbered : (k n : ℕ) (x : Pattern) (K : List Frame) (t : List ℕ) → n < tens (suc k) → n < numbers
-    → run (limit x K) (decimal n ++ t) ≡ run (number x n K) t
+    → read_from (limit x K) (decimal n ++ t) ≡ read_from (number x n K) t
 numbered zero n x K t h small = rw (decimal_one n (omega arith)) (on (limit x K) (number x n K) (n + 48) t (digit_step n x K (omega arith)))
 numbered (suc k) n x K t h small =
     either_way n 10
     (λ l. rw (decimal_one n l) (on (limit x K) (number x n K) (n + 48) t (digit_step n x K l)))
-    (λ l. ap (λ (w : List ℕ). run (limit x K) (w ++ t)) (decimal_last n l)
-    ∙ ap (run (limit x K)) (append_assoc (decimal (n / 10)) ((n % 10 + 48) ∷ []) t)
+    (λ l. ap (λ (w : List ℕ). read_from (limit x K) (w ++ t)) (decimal_last n l)
+    ∙ ap (read_from (limit x K)) (append_assoc (decimal (n / 10)) ((n % 10 + 48) ∷ []) t)
     ∙ numbered k (n / 10) x K ((n % 10 + 48) ∷ t) (omega arith) (omega arith)
     ∙ on (number x (n / 10) K) (number x (n / 10 * 10 + n % 10) K) (n % 10 + 48) t
     (more_step (n / 10) (n % 10) x K (omega arith) (omega arith) (omega arith))
-    ∙ ap (λ (v : ℕ). run (number x v K) t) (omega arith))
+    ∙ ap (λ (v : ℕ). read_from (number x v K) t) (omega arith))
 
 -- what stands between two operands and a bracket
 regroup : (x y t : List ℕ) (c : ℕ) → (x ++ (c ∷ y ++ (41 ∷ []))) ++ t ≡ x ++ (c ∷ (y ++ (41 ∷ t)))
 regroup x y t c = append_assoc x (c ∷ y ++ (41 ∷ [])) t ∙ ap (λ (w : List ℕ). x ++ (c ∷ w)) (append_assoc y (41 ∷ []) t)
 
 -- the text of a pattern is read as that pattern, whatever stands around it
-pub complete : (e : Pattern) (K : List Frame) (t : List ℕ) → Proper numbers e → run (want K) (render e ++ t) ≡ run (have e K) t
+pub complete : (e : Pattern) (K : List Frame) (t : List ℕ) → Proper numbers e → read_from (want K) (render e ++ t) ≡ read_from (have e K) t
 complete (event n) K t h = on (want K) (have (event n) K) (letter_byte n) t (letter_step n K h)
 complete (pair op x y) K t h =
     on (want K) (want (first ∷ K)) 40 _ (open_step K)
-    ∙ ap (run (want (first ∷ K))) (regroup (render x) (render y) t (op_byte op))
+    ∙ ap (read_from (want (first ∷ K))) (regroup (render x) (render y) t (op_byte op))
     ∙ complete x (first ∷ K) (op_byte op ∷ (render y ++ (41 ∷ t))) h.0
     ∙ on (have x (first ∷ K)) (want (second op x ∷ K)) (op_byte op) _ (sign_step op x K)
     ∙ complete y (second op x ∷ K) (41 ∷ t) h.1
     ∙ on (have y (second op x ∷ K)) (have (pair op x y) K) 41 t refl
 complete (within x n) K t h =
     on (want K) (want (first ∷ K)) 40 _ (open_step K)
-    ∙ ap (run (want (first ∷ K))) (regroup (render x) (decimal n) t 64)
+    ∙ ap (read_from (want (first ∷ K))) (regroup (render x) (decimal n) t 64)
     ∙ complete x (first ∷ K) (64 ∷ (decimal n ++ (41 ∷ t))) h.0
     ∙ on (have x (first ∷ K)) (limit x K) 64 _ (cap_step x K)
     ∙ numbered (most_digits - 1) n x K (41 ∷ t) (omega (arith, h.1)) h.1
     ∙ on (number x n K) (have (within x n) K) 41 t (shut_step x n K)
 
-pub complete_whole : (s : List ℕ) (e : Pattern) → TextOf s e → run (want []) s ≡ Ok e
-unfolding run
-complete_whole s e h = ap (run (want [])) (h.same ∙ sym (append-nil (render e))) ∙ complete e [] [] h.proper
+pub complete_whole : (s : List ℕ) (e : Pattern) → TextOf s e → read_from (want []) s ≡ Ok e
+unfolding read_from
+complete_whole s e h = ap (read_from (want [])) (h.same ∙ sym (append-nil (render e))) ∙ complete e [] [] h.proper

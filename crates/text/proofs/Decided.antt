@@ -15,7 +15,7 @@ use Rattle.text.specs.Answer.{IsText, ReadingOf, PrintingOf}
 use Rattle.text.specs.Answer.RefusedText.{long, syntax, many, room}
 use Rattle.text.specs.Answer.RefusedBody.{unsound, room as text_room}
 use Rattle.text.specs.Claim.{OneReading, OnePrinting}
-use Rattle.text.specs.inner.Machine.{run}
+use Rattle.text.specs.inner.Machine.{read_from}
 use Rattle.text.specs.inner.Machine.State.{want}
 use Rattle.text.proofs.Complete.{complete_whole}
 use Rattle.text.proofs.Sound.{text_of, stopped_at, one_place}
@@ -41,7 +41,7 @@ outcome_of s d (Ok e) = whole_of e d
 outcome_of s d (Err r) = record { answer = Err (Syntax (length s - length r)); slice = d }
 
 read_of : List ℕ → List ℕ → Answer
-read_of s d = cond (ltb most_text (length s)) (record { answer = Err Long; slice = d }) (outcome_of s d (run (want []) s))
+read_of s d = cond (ltb most_text (length s)) (record { answer = Err Long; slice = d }) (outcome_of s d (read_from (want []) s))
 
 module _ (s d : List ℕ) where
   of_text : (t : IsText s) → read_of s d ≡ whole_of t.tree d
@@ -50,9 +50,9 @@ module _ (s d : List ℕ) where
 
   of_broken : (place : ℕ) → length s ≤ most_text → Broken s place → read_of s d ≡ record { answer = Err (Syntax place); slice = d }
   unfolding read_of outcome_of
-  of_broken place h b = simp (le-ltb most_text (length s) h) (go (run (want []) s) refl)
+  of_broken place h b = simp (le-ltb most_text (length s) h) (go (read_from (want []) s) refl)
     where
-      go : (o : Result Pattern (List ℕ)) → run (want []) s ≡ o → outcome_of s d o ≡ record { answer = Err (Syntax place); slice = d }
+      go : (o : Result Pattern (List ℕ)) → read_from (want []) s ≡ o → outcome_of s d o ≡ record { answer = Err (Syntax place); slice = d }
       go (Ok e) q = absurd (b.no_text e (text_of s e q))
       go (Err r) q = ap (λ (k : ℕ). record { answer = Err (Syntax k); slice = d }) (one_place s _ place (stopped_at s r q) b)
 

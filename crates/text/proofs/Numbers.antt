@@ -1,9 +1,9 @@
--- The ways that `read_number` ends. Assumes nothing.
+-- The ways that `read_limit` ends. Assumes nothing.
 use Rattle.std.proofs.Common.{◌≡◌, ℕ, ◌+◌, ◌*◌, ◌<◌, ◌≤◌, false, eqb, Option, Some, None, List, length, get_or, drop, sym, refl, ap, ◌∙◌, subst, arith, le-ltb, lt-ltb, ne_eqb}
 use Rattle.rules.specs.Pattern.{Pattern, within}
 use Rattle.text.specs.Render.{numbers}
 use Rattle.text.specs.Characters.{digit_of}
-use Rattle.text.specs.inner.Machine.{Frame, grown, run, shut}
+use Rattle.text.specs.inner.Machine.{Frame, grown, read_from, shut}
 use Rattle.text.specs.inner.Machine.State.{limit, number}
 use Rattle.text.specs.inner.Helpers.{IsValue, IsBad}
 use Rattle.decimal.proofs.Branches.{either_way}
@@ -58,7 +58,7 @@ pub record DigitsRead (s : List ℕ) (at end v : ℕ) : Type 0 where
   pub inside : end ≤ length s
   pub some : 0 < v
   pub small : v < numbers
-  pub reads : (x : Pattern) (K : List Frame) → run (limit x K) (drop at s) ≡ run (number x v K) (drop end s)
+  pub reads : (x : Pattern) (K : List Frame) → read_from (limit x K) (drop at s) ≡ read_from (number x v K) (drop end s)
 
 module _ (s : List ℕ) (at : ℕ) where
   pub bad_end : length s ≡ at → IsBad s at at
@@ -68,11 +68,11 @@ module _ (s : List ℕ) (at : ℕ) where
   bad_first h q = record { inside = omega arith; reads = λ x K. run_no s at (limit x K) h (simp (← q)) }
 
   -- a 0 is a number by itself
-  zero_alone : (x : Pattern) (K : List Frame) (i : ℕ) → run (number x 0 K) (drop i s) ≡ shut (within x 0) K (drop i s)
+  zero_alone : (x : Pattern) (K : List Frame) (i : ℕ) → read_from (number x 0 K) (drop i s) ≡ shut (within x 0) K (drop i s)
   zero_alone x K i = either_way i (length s) (λ h. number_shut s i x 0 K h (grown_zero _)) (λ h. number_end s i x 0 K h)
 
   module _ (d : ℕ) (h : at < length s) (q : Some d ≡ digit_of (get_or s at 0)) where
-    first_digit : (x : Pattern) (K : List Frame) → run (limit x K) (drop at s) ≡ run (number x d K) (drop (at + 1) s)
+    first_digit : (x : Pattern) (K : List Frame) → read_from (limit x K) (drop at s) ≡ read_from (number x d K) (drop (at + 1) s)
     first_digit x K = run_to s at (limit x K) _ h (simp (← q))
 
     pub value_zero : d ≡ 0 → IsValue s at (at + 1) 0
@@ -80,7 +80,7 @@ module _ (s : List ℕ) (at : ℕ) where
       ahead = omega arith;
       inside = omega arith;
       small = omega arith;
-      reads = λ x K. first_digit x K ∙ ap (λ (v : ℕ). run (number x v K) (drop (at + 1) s)) z ∙ zero_alone x K (at + 1);
+      reads = λ x K. first_digit x K ∙ ap (λ (v : ℕ). read_from (number x v K) (drop (at + 1) s)) z ∙ zero_alone x K (at + 1);
     }
 
     pub digits_first : 0 < d → DigitsRead s at (at + 1) d

@@ -12,7 +12,7 @@ use Rattle.refusal.specs.declared.Refusal.TheVariants.{Syntax, Room}
 use Rattle.text.specs.Answer.{IsText, IsSyntax, IsMany, RefusedText, ReadingOf}
 use Rattle.text.specs.Answer.RefusedText.{syntax, room}
 use Rattle.text.specs.declared.made.Made.{Made}
-use Rattle.text.specs.inner.Machine.{run}
+use Rattle.text.specs.inner.Machine.{read_from}
 use Rattle.text.specs.inner.Machine.State.{have}
 use Rattle.text.specs.inner.Written.{entry_length, body_length}
 use Rattle.text.specs.inner.Helpers.{IsExpression, ExpressionAt}
@@ -40,8 +40,8 @@ module _ (s : List ℕ) (short : length s ≤ most_text) where
     is_text : length s ≤ end → IsText s
     is_text h = record { short = short; tree = l.tree; text = text_of s l.tree (l.reads [] ∙ at_end) }
       where
-        at_end : run (have l.tree []) (drop end s) ≡ Ok l.tree
-        at_end = unfold run in ap (run (have l.tree [])) (drop_of_length-le s h)
+        at_end : read_from (have l.tree []) (drop end s) ≡ Ok l.tree
+        at_end = unfold read_from in ap (read_from (have l.tree [])) (drop_of_length-le s h)
 
     bytes : m * entry_length ≡ length (encode argument_bytes l.tree)
     bytes = omega (arith, l.count, length_encode argument_bytes l.tree)

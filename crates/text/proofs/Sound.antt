@@ -6,7 +6,7 @@ use Rattle.rules.proofs.Impossible.{impossible}
 use Rattle.rules.specs.Pattern.{Pattern, Proper}
 use Rattle.text.specs.Render.{numbers, render}
 use Rattle.text.specs.Grammar.{TextOf, Begins, Broken}
-use Rattle.text.specs.inner.Machine.{State, step, ended, follow, run}
+use Rattle.text.specs.inner.Machine.{State, step, ended, follow, read_from}
 use Rattle.text.specs.inner.Machine.State.{want, have, limit, number}
 use Rattle.decimal.proofs.Branches.{either_way}
 use Rattle.text.proofs.Complete.{on, complete_whole}
@@ -19,7 +19,7 @@ record Stop (σ : State) (s r : List ℕ) : Type 0 where
   fine : Fine state
   split : s ≡ read ++ r
   text : sofar σ ++ read ≡ sofar state
-  follows : (t : List ℕ) → run σ (read ++ t) ≡ run state t
+  follows : (t : List ℕ) → read_from σ (read ++ t) ≡ read_from state t
   stays : (b : ℕ) (t : List ℕ) → r ≡ b ∷ t → step state b ≡ None
 
 ended_nil : (σ : State) (r : List ℕ) → ended σ ≡ Err r → r ≡ []
@@ -32,8 +32,8 @@ ended_nil (number x v K) r e = cc
 nil_cons : (r : List ℕ) (b : ℕ) (t : List ℕ) → r ≡ [] → r ≡ b ∷ t → ⊥
 nil_cons r b t p q = impossible cc
 
-stop : (s : List ℕ) (σ : State) (r : List ℕ) → Fine σ → run σ s ≡ Err r → Stop σ s r
-unfolding run
+stop : (s : List ℕ) (σ : State) (r : List ℕ) → Fine σ → read_from σ s ≡ Err r → Stop σ s r
+unfolding read_from
 stop [] σ r f e =
     let n : r ≡ [] = ended_nil σ r e in
     record {
@@ -47,9 +47,9 @@ stop [] σ r f e =
     }
 stop (c ∷ s) σ r f e = go (λ τ g q. stop s τ r g q) (step σ c) refl
   where
-    go : ((τ : State) → Fine τ → run τ s ≡ Err r → Stop τ s r) → (m : Option State) → step σ c ≡ m → Stop σ (c ∷ s) r
+    go : ((τ : State) → Fine τ → read_from τ s ≡ Err r → Stop τ s r) → (m : Option State) → step σ c ≡ m → Stop σ (c ∷ s) r
     go again None q =
-        let here : run σ (c ∷ s) ≡ Err (c ∷ s) = ap (λ (m : Option State). follow m (λ υ. run υ s) (c ∷ s)) q in
+        let here : read_from σ (c ∷ s) ≡ Err (c ∷ s) = ap (λ (m : Option State). follow m (λ υ. read_from υ s) (c ∷ s)) q in
         let n : c ∷ s ≡ r = cc in
         record {
           state = σ;
@@ -73,15 +73,15 @@ stop (c ∷ s) σ r f e = go (λ τ g q. stop s τ r g q) (step σ c) refl
           stays = u.stays;
         }
 
-no_move : (σ : State) (b : ℕ) (t : List ℕ) → step σ b ≡ None → run σ (b ∷ t) ≡ Err (b ∷ t)
-unfolding run
-no_move σ b t e = ap (λ (m : Option State). follow m (λ υ. run υ t) (b ∷ t)) e
+no_move : (σ : State) (b : ℕ) (t : List ℕ) → step σ b ≡ None → read_from σ (b ∷ t) ≡ Err (b ∷ t)
+unfolding read_from
+no_move σ b t e = ap (λ (m : Option State). follow m (λ υ. read_from υ t) (b ∷ t)) e
 
 whole_stopped : (o : Result Pattern (List ℕ)) (e : Pattern) (r : List ℕ) → o ≡ Ok e → o ≡ Err r → ⊥
 whole_stopped o e r p q = impossible cc
 
 -- a text that the machine stops in is broken there
-pub broken : (s : List ℕ) (place : ℕ) → place ≤ length s → run (want []) s ≡ Err (drop place s) → Broken s place
+pub broken : (s : List ℕ) (place : ℕ) → place ≤ length s → read_from (want []) s ≡ Err (drop place s) → Broken s place
 broken s place h e = record {
   no_text = λ x t. whole_stopped _ x _ (complete_whole s x t) e;
   inside = h;
@@ -104,8 +104,8 @@ broken s place h e = record {
         let d : m ≡ length u.read + suc j = omega (arith, size) in
         let cut : take m s ≡ u.read ++ (c ∷ take j r) =
         ap₂ take d (u.split ∙ ap (λ (w : List ℕ). u.read ++ w) q) ∙ take-append-add u.read (c ∷ r) (suc j) in
-        let runs : run (want []) (take m s ++ b.rest) ≡ Err (c ∷ (take j r ++ b.rest)) =
-        ap (run (want [])) (ap (λ (w : List ℕ). w ++ b.rest) cut ∙ append_assoc u.read (c ∷ take j r) b.rest)
+        let runs : read_from (want []) (take m s ++ b.rest) ≡ Err (c ∷ (take j r ++ b.rest)) =
+        ap (read_from (want [])) (ap (λ (w : List ℕ). w ++ b.rest) cut ∙ append_assoc u.read (c ∷ take j r) b.rest)
         ∙ u.follows (c ∷ (take j r ++ b.rest)) ∙ no_move u.state c (take j r ++ b.rest) (u.stays c r q) in
         whole_stopped _ b.tree _ (complete_whole _ b.tree b.text) runs
 
@@ -119,19 +119,19 @@ ended_whole (have x (g ∷ K)) e f q = impossible cc
 ended_whole (limit x K) e f q = impossible cc
 ended_whole (number x v K) e f q = impossible cc
 
-sound : (s : List ℕ) (σ : State) (e : Pattern) → Fine σ → run σ s ≡ Ok e → TextOf (sofar σ ++ s) e
-unfolding run
+sound : (s : List ℕ) (σ : State) (e : Pattern) → Fine σ → read_from σ s ≡ Ok e → TextOf (sofar σ ++ s) e
+unfolding read_from
 sound [] σ e f q = ended_whole σ e f q
 sound (c ∷ s) σ e f q = go (λ τ g p. sound s τ e g p) (step σ c) refl
   where
-    go : ((τ : State) → Fine τ → run τ s ≡ Ok e → TextOf (sofar τ ++ s) e) → (m : Option State) → step σ c ≡ m → TextOf (sofar σ ++ (c ∷ s)) e
-    go again None p = absurd (whole_stopped _ e (c ∷ s) q (ap (λ (m : Option State). follow m (λ υ. run υ s) (c ∷ s)) p))
+    go : ((τ : State) → Fine τ → read_from τ s ≡ Ok e → TextOf (sofar τ ++ s) e) → (m : Option State) → step σ c ≡ m → TextOf (sofar σ ++ (c ∷ s)) e
+    go again None p = absurd (whole_stopped _ e (c ∷ s) q (ap (λ (m : Option State). follow m (λ υ. read_from υ s) (c ∷ s)) p))
     go again (Some τ) p =
         let l = leads_to σ τ c f p in
         subst (λ (w : List ℕ). TextOf w e) (ap (λ (w : List ℕ). w ++ s) (sym l.1) ∙ append_assoc (sofar σ) (c ∷ []) s)
         (again τ l.0 (sym (on σ τ c s p) ∙ q))
 
-pub text_of : (s : List ℕ) (e : Pattern) → run (want []) s ≡ Ok e → TextOf s e
+pub text_of : (s : List ℕ) (e : Pattern) → read_from (want []) s ≡ Ok e → TextOf s e
 text_of s e q = sound s (want []) e tt q
 
 -- a text has one pattern, and a broken text one place
@@ -142,7 +142,7 @@ pub one_place : (s : List ℕ) (p q : ℕ) → Broken s p → Broken s q → p �
 one_place s p q a b = omega (arith, a.longest q b.inside b.begins, b.longest p a.inside a.begins)
 
 -- the place where the machine stops
-pub stopped_at : (s r : List ℕ) → run (want []) s ≡ Err r → Broken s (length s - length r)
+pub stopped_at : (s r : List ℕ) → read_from (want []) s ≡ Err r → Broken s (length s - length r)
 stopped_at s r e = broken s (length s - length r) (omega arith) (e ∙ ap Err rest)
   where
     u : Stop (want []) s r

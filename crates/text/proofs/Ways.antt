@@ -7,7 +7,7 @@ use Rattle.body.specs.declared.Entry.TheVariants.{Pair}
 use Rattle.body.specs.Bytes.{bytes_of}
 use Rattle.body.specs.Entry.{op_number, entry_bytes}
 use Rattle.text.specs.Characters.{letter_of}
-use Rattle.text.specs.inner.Machine.{Frame, sign_of, run, shut, after_sign}
+use Rattle.text.specs.inner.Machine.{Frame, sign_of, read_from, shut, after_sign}
 use Rattle.text.specs.inner.Machine.Frame.{first, second}
 use Rattle.text.specs.inner.Machine.State.{want, have, limit}
 use Rattle.text.specs.declared.reader.Sign.TheVariants.{Operator, Limit}
@@ -43,7 +43,7 @@ module _ (s : List ℕ) (at : ℕ) where
   no_open h q f = record { inside = omega arith; reads = λ K. run_no s at (want K) h (simp (← q, ne_eqb _ _ f)) }
 
   module _ (o : Opened s at) where
-    opened : (K : List Frame) → run (want K) (drop at s) ≡ run (want (first ∷ K)) (drop (at + 1) s)
+    opened : (K : List Frame) → read_from (want K) (drop at s) ≡ read_from (want (first ∷ K)) (drop (at + 1) s)
     opened K = run_to s at (want K) _ o.inside (simp (← o.no_letter, eq-eqb _ _ o.bracket))
 
     pub no_left : {p : ℕ} → NoExpression s (at + 1) p → NoExpression s at p
@@ -54,7 +54,7 @@ module _ (s : List ℕ) (at : ℕ) where
       no_right r = record { inside = r.inside; reads = λ K. opened K ∙ l.reads (first ∷ K) ∙ r.reads l.tree K }
 
       module _ {d₂ : List ℕ} {last all : ℕ} (r : IsTail s mid m d₁ d₂ last all) where
-        until : (K : List Frame) → run (want K) (drop at s) ≡ shut (join l.tree r.rest) K (drop last s)
+        until : (K : List Frame) → read_from (want K) (drop at s) ≡ shut (join l.tree r.rest) K (drop last s)
         until K = opened K ∙ l.reads (first ∷ K) ∙ r.reads l.tree K
 
         pub no_more : length s ≡ last → NoExpression s at last
@@ -86,7 +86,7 @@ module _ (s : List ℕ) (at : ℕ) where
 
   module _ (h : at < length s) where
     module _ (q : Some Limit ≡ sign_of (get_or s at 0)) where
-      capped : (x : Pattern) (K : List Frame) → run (have x (first ∷ K)) (drop at s) ≡ run (limit x K) (drop (at + 1) s)
+      capped : (x : Pattern) (K : List Frame) → read_from (have x (first ∷ K)) (drop at s) ≡ read_from (limit x K) (drop (at + 1) s)
       capped x K = run_to s at (have x (first ∷ K)) _ h (ap (after_sign x K) (sym q))
 
       pub no_number : {p : ℕ} → IsBad s (at + 1) p → NoTail s at p
@@ -107,7 +107,7 @@ module _ (s : List ℕ) (at : ℕ) where
 
     module _ (op : Op) (q : Some (Operator op) ≡ sign_of (get_or s at 0)) where
       operated : (x : Pattern) (K : List Frame)
-          → run (have x (first ∷ K)) (drop at s) ≡ run (want (second op x ∷ K)) (drop (at + 1) s)
+          → read_from (have x (first ∷ K)) (drop at s) ≡ read_from (want (second op x ∷ K)) (drop (at + 1) s)
       operated x K = run_to s at (have x (first ∷ K)) _ h (ap (after_sign x K) (sym q))
 
       pub no_operand : {p : ℕ} → NoExpression s (at + 1) p → NoTail s at p

@@ -59,7 +59,7 @@ fn tail(text: &[u8], at: usize, made: &mut Made) -> Result<usize, usize>
     match read_sign(text[at]) {
         None => Err(at),
         Some(Sign::Limit) => {
-            let number = read_number(text, at + 1)?;
+            let number = read_limit(text, at + 1)?;
             made.push(5, number.value);
             Ok(number.end)
         }
@@ -71,9 +71,9 @@ fn tail(text: &[u8], at: usize, made: &mut Made) -> Result<usize, usize>
     }
 }
 
-// Reads the number that starts at `at`. An error is the place where none could go on.
-// It is not one function with the reader of `line`, which caps too large a number and knows no place.
-fn read_number(text: &[u8], at: usize) -> Result<Number, usize>
+// Reads the number of a restriction, which starts at `at`. An error is the place where none could go on.
+// It is not one function with the reader of numbers in `line`, which caps too large a number and knows no place.
+fn read_limit(text: &[u8], at: usize) -> Result<Number, usize>
     requires { at ≤ length text.now }
     ensures { NumberAt text.now at result }
 {

@@ -28,6 +28,9 @@ pub(crate) const NEXT: usize = 1;
 
 pub(crate) const HEADER: usize = 2;
 
+// A pattern of fewer entries is stepped over small arrays.
+const SMALL: u64 = 16;
+
 // The room of a body's pattern: the words of its state.
 #[tactic(auto, unfolding(crate::specs::inner::Walk::words_needed), using(crate::proofs::Opens::room_answers))]
 pub fn room(body: &[u8]) -> Result<usize, Refusal>
@@ -130,7 +133,7 @@ pub fn step(state: &mut [u64], t: u64, events: u32) -> u64
     requires { TickReady state.old t }
     ensures { IsTicked state.old state.new t events result }
 {
-    if state[COUNT] < 16 {
+    if state[COUNT] < SMALL {
         walk::step_with::<8, 9, 14>(state, t, events)
     } else {
         walk::step_with::<32, 33, 62>(state, t, events)

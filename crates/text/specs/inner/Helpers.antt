@@ -10,7 +10,7 @@ use Rattle.body.specs.Entry.{entry_bytes, entries_by, entry_at}
 use Rattle.body.specs.Postfix.{postfix, encode}
 use Rattle.decimal.specs.Before.{Before}
 use Rattle.text.specs.Render.{numbers, most_printed, render}
-use Rattle.text.specs.inner.Machine.{Frame, first, run, shut, want, have, limit}
+use Rattle.text.specs.inner.Machine.{Frame, first, read_from, shut, want, have, limit}
 use Rattle.text.specs.inner.Written.{Written}
 use Rattle.text.specs.declared.made.Made.{Made}
 use Rattle.text.specs.declared.reader.Number.{Number}
@@ -20,11 +20,11 @@ pub record IsValue (s : List ℕ) (at end v : ℕ) : Type 0 where
   pub ahead : at < end
   pub inside : end ≤ length s
   pub small : v < numbers
-  pub reads : (x : Pattern) (K : List Frame) → run (limit x K) (drop at s) ≡ shut (within x v) K (drop end s)
+  pub reads : (x : Pattern) (K : List Frame) → read_from (limit x K) (drop at s) ≡ shut (within x v) K (drop end s)
 
 pub record IsBad (s : List ℕ) (at place : ℕ) : Type 0 where
   pub inside : place ≤ length s
-  pub reads : (x : Pattern) (K : List Frame) → run (limit x K) (drop at s) ≡ Err (drop place s)
+  pub reads : (x : Pattern) (K : List Frame) → read_from (limit x K) (drop at s) ≡ Err (drop place s)
 
 abbrev pub NumberAt : List ℕ → ℕ → Result Number ℕ → Type 0
 NumberAt s at (Ok r) = IsValue s at r.end r.value
@@ -33,7 +33,7 @@ NumberAt s at (Err place) = IsBad s at place
 -- an expression stands from `at` to `end`; after n entries its own are written, and there are m
 pub record IsExpression (s : List ℕ) (at n : ℕ) (d d' : List ℕ) (end m : ℕ) : Type 0 where
   pub tree : Pattern
-  pub reads : (K : List Frame) → run (want K) (drop at s) ≡ run (have tree K) (drop end s)
+  pub reads : (K : List Frame) → read_from (want K) (drop at s) ≡ read_from (have tree K) (drop end s)
   pub ahead : at < end
   pub inside : end ≤ length s
   pub count : m ≡ n + size tree
@@ -42,7 +42,7 @@ pub record IsExpression (s : List ℕ) (at n : ℕ) (d d' : List ℕ) (end m : �
 
 pub record NoExpression (s : List ℕ) (at place : ℕ) : Type 0 where
   pub inside : place ≤ length s
-  pub reads : (K : List Frame) → run (want K) (drop at s) ≡ Err (drop place s)
+  pub reads : (K : List Frame) → read_from (want K) (drop at s) ≡ Err (drop place s)
 
 abbrev pub ExpressionAt : List ℕ → ℕ → Made → Made → Result ℕ ℕ → Type 0
 ExpressionAt s at d d' (Ok end) = IsExpression s at d.entries d.bytes d'.bytes end d'.entries
@@ -68,7 +68,7 @@ rest_size (up_to n) = 1
 -- the same of a tail, whatever operand stands before it
 pub record IsTail (s : List ℕ) (at n : ℕ) (d d' : List ℕ) (end m : ℕ) : Type 0 where
   pub rest : Rest
-  pub reads : (x : Pattern) (K : List Frame) → run (have x (first ∷ K)) (drop at s) ≡ shut (join x rest) K (drop end s)
+  pub reads : (x : Pattern) (K : List Frame) → read_from (have x (first ∷ K)) (drop at s) ≡ shut (join x rest) K (drop end s)
   pub ahead : at < end
   pub inside : end ≤ length s
   pub count : m ≡ n + rest_size rest
@@ -77,7 +77,7 @@ pub record IsTail (s : List ℕ) (at n : ℕ) (d d' : List ℕ) (end m : ℕ) : 
 
 pub record NoTail (s : List ℕ) (at place : ℕ) : Type 0 where
   pub inside : place ≤ length s
-  pub reads : (x : Pattern) (K : List Frame) → run (have x (first ∷ K)) (drop at s) ≡ Err (drop place s)
+  pub reads : (x : Pattern) (K : List Frame) → read_from (have x (first ∷ K)) (drop at s) ≡ Err (drop place s)
 
 abbrev pub TailAt : List ℕ → ℕ → Made → Made → Result ℕ ℕ → Type 0
 TailAt s at d d' (Ok end) = IsTail s at d.entries d.bytes d'.bytes end d'.entries

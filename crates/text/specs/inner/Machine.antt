@@ -63,11 +63,11 @@ abbrev pub follow : Option State → (State → Result Pattern (List ℕ)) → L
 follow o f s = option_map_or f o (Err s)
 
 -- a text read from a state on
-unfoldable pub run : State → List ℕ → Result Pattern (List ℕ)
-run σ [] = ended σ
-run σ (c ∷ s) = follow (step σ c) (λ τ. run τ s) (c ∷ s)
+unfoldable pub read_from : State → List ℕ → Result Pattern (List ℕ)
+read_from σ [] = ended σ
+read_from σ (c ∷ s) = follow (step σ c) (λ τ. read_from τ s) (c ∷ s)
 
 -- ')' and what follows it, where the bracket's expression is e
 unfoldable pub shut : Pattern → List Frame → List ℕ → Result Pattern (List ℕ)
 shut e K [] = Err []
-shut e K (c ∷ s) = cond (c == 41) (run (have e K) s) (Err (c ∷ s))
+shut e K (c ∷ s) = cond (c == 41) (read_from (have e K) s) (Err (c ∷ s))

@@ -1,6 +1,6 @@
 use Rattle.std.proofs.Common.{arith}
 use Rattle.text.proofs.Numbers.{bad_end, bad_first, value_zero, digits_first, value_other, value_end, bad_over, digits_more}
-use Rattle.text.proofs.reader.read_number.Goals as goal
+use Rattle.text.proofs.reader.read_limit.Goals as goal
 
 pub returns-then-at-text : goal.returns-then-at-text
 returns-then-at-text c = bad_end _ _ (omega arith)
