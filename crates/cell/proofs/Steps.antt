@@ -26,12 +26,6 @@ module _ (p : Span) (a e : ℕ) where
   unfolding becomes
   becomes_left h = sym (pick_no (dec_lt p.start a) (record { start = a; end = e }) p (λ k. omega arith))
 
--- a pair read, the later, and that stored
-pub renewed : (c c' : List ℕ) (at a t : ℕ) (q p : Span) → q ≡ span_at c at → p ≡ becomes q a t → c' ≡ put_span c at p → Renewed c at a t c' p.start
-renewed c c' at a t q p read made put =
-    let e : p ≡ becomes (span_at c at) a t = made ∙ ap (λ (k : Span). becomes k a t) read in
-    record { start = ap (λ (k : Span). k.start) e; words = put ∙ ap (put_span c at) e }
-
 -- `+`: left and right renewed
 pub both_stepped :
     (t x y : ℕ) (ys c c₁ c₂ : List ℕ) (left right r : ℕ) → length c ≡ 4 → Renewed c 0 x t c₁ left → Renewed c₁ 2 y t c₂ right

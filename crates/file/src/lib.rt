@@ -59,7 +59,7 @@ pub fn check_file(file: &[u8]) -> Result<(), Refusal>
     contents::check_rest(usize::from(*count), rest)
 }
 
-// How many patterns a file says it has, 0 if it is empty. It is no `Option`: the call cannot fail.
+// How many patterns a file says it has; an empty file has none.
 pub fn pattern_count(file: &[u8]) -> usize
     ensures { (result ≡ pattern_count file.now) × (result < 256) }
 {

@@ -1,13 +1,13 @@
 // The plain evaluator: every instance of every entry of a body in a record of at most 64 ticks.
 #![tactic(auto)]
 
-ghost use Rattle.std.specs.Prelude.{Ok, ◌≡◌, ◌⊎◌, ℕ, ◌+◌, ◌-◌, ◌*◌, ◌≤◌, ◌<◌, length, get_or};
+ghost use Rattle.std.specs.Prelude.{Ok, ◌≡◌, ◌⊎◌, ℕ, ◌+◌, ◌-◌, ◌*◌, ◌≤◌, ◌<◌, length};
 ghost use Rattle.rules.specs.Bits.{On, ones_below};
 ghost use Rattle.rules.specs.Instances.{Occurs, Rule, Short};
 ghost use Rattle.plain.specs.Row.{Exactly, IsLatest};
 ghost use Rattle.plain.specs.Rows.{Shown, rows_of, worded};
 ghost use Rattle.plain.specs.Answer.{Answers, RowsAfter, Ready};
-ghost use Rattle.plain.specs.inner.Fill.{Before, Seen, Lesser, Masked, Filled, FilledBy};
+ghost use Rattle.plain.specs.inner.Fill.{Seen, Lesser, Masked, Filled, FilledBy};
 
 use body::Entry;
 use refusal::Refusal;

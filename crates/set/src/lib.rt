@@ -1,7 +1,7 @@
 // Several watchers in one slice: each state is a part of it, beginning where the one before it ends.
 #![tactic(auto)]
 
-ghost use Rattle.std.specs.Prelude.{◌≡◌, ◌≤◌};
+ghost use Rattle.std.specs.Prelude.{◌≤◌};
 ghost use Rattle.rules.specs.Limits.{most_patterns};
 ghost use Rattle.set.specs.Set.{SetAnswers};
 ghost use Rattle.set.specs.File.{SetRoomAnswers, SetOpenAnswers, IsSetOpened};

@@ -1,6 +1,6 @@
 -- Chunks taken one after the other are an input given: what a call used of its chunk is given whole, and what is given after an input is given with it.
 -- Assumes nothing.
-use Rattle.std.specs.Prelude.{Result, None}
+use Rattle.std.specs.Prelude.{Result}
 use Rattle.std.specs.declared.io.Error.{Error}
 use Prim.Native.Nat.{ℕ, ◌+◌, ◌-◌, ◌≤◌}
 use mathlib.Core.Path.{◌≡◌, refl, sym, ap, subst, ◌∙◌}

@@ -14,12 +14,12 @@ ghost use Rattle.watcher.specs.Answer.{RoomAnswers, OpenAnswers, TickAnswers, Ti
 ghost use Rattle.watcher.specs.Feed.{FeedAnswers, first_fault};
 ghost use Rattle.watcher.specs.inner.Walk.{cells_needed, words_opened, extent};
 ghost use Rattle.watcher.specs.State.{header, next_of, word_of};
-ghost use Rattle.watcher.specs.inner.Form.{Narrow, Put, words_of, zeros, OpenReady};
+ghost use Rattle.watcher.specs.inner.Form.{Narrow, Put, words_of, OpenReady};
 
 use body::Entry;
 use possible::Possible;
 use refusal::Refusal;
-use rules::{ENTRY_BYTES, LAST_TICK, MOST_ENTRIES, Op, TICKS};
+use rules::{ENTRY_BYTES, LAST_TICK, MOST_ENTRIES, TICKS};
 
 // A state begins with its header: the number of entries, then the next tick allowed.
 pub(crate) const COUNT: usize = 0;
@@ -118,7 +118,7 @@ pub fn extent(state: &[u64]) -> Option<usize>
     form::judged_end(state, n)
 }
 
-// The next tick that the state at the front of a slice allows, 0 if the slice ends before that word. It is no `Option`: the call cannot fail.
+// The next tick that the state at the front of a slice allows, 0 if the slice ends before that word. It is no `Option`, since each caller has judged the state.
 pub fn next_tick(state: &[u64]) -> u64
     ensures { result ≡ next_of state.now }
 {

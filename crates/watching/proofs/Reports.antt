@@ -5,7 +5,7 @@ use mathlib.Core.Path.{◌≡◌, refl, subst}
 use mathlib.Core.List.{List, [], ◌∷◌, ◌++◌, append_assoc, append-nil}
 use native.Mathlib.Numerals.{add-one}
 use native.Mathlib.Omega.{arith}
-use lib.ListN.{length, get_or, take, drop, length-drop, drop_of_length-le}
+use lib.ListN.{length, get_or, take, drop, drop_of_length-le}
 use lib.Seq.{take-suc, drop-cons}
 use borrow.Author.Tests.{le-ltb, lt-leb}
 use borrow.Rule.Slice.PartMut.{mid_of, put_mid}
@@ -22,7 +22,6 @@ use Rattle.watching.specs.Answer.{Acted, silent, added, full, IsActed}
 use Rattle.watching.specs.inner.Progress.{WritesOn}
 use Rattle.watching.specs.inner.Batch.{answer_at, AllReported, none, more, Holds, ReportReady, IsReported, ReportAllReady, IsAllReported}
 use Rattle.watching.proofs.Writings.{nothing_written}
-use Rattle.watching.proofs.Appending.{lent_rest}
 use Rattle.watching.proofs.Progress.{writes_on, writes_whole, writes_length, writes_then}
 
 -- ---- one answer

@@ -4,7 +4,7 @@ use Prim.Native.Nat.{ℕ, ◌-◌, ◌^◌, ◌<◌, ◌≤◌}
 use mathlib.Core.Path.{◌≡◌, refl}
 use mathlib.Core.List.{List, []}
 use lib.ListN.{length, take}
-use borrow.Author.Tests.{eq-eqb, ne_eqb}
+use borrow.Author.Tests.{eq-eqb}
 use native.Mathlib.Omega.{arith}
 use Rattle.refusal.specs.declared.Refusal.{Refusal}
 use Rattle.refusal.specs.Table.{number_of}
@@ -13,7 +13,6 @@ use Rattle.tally.specs.declared.Tally.{Tally}
 use Rattle.tally.specs.Tallied.{added_to}
 use Rattle.line.specs.Lines.{most_written, most_tally, window_line, tally_line, refused_line}
 use Rattle.line.specs.Answer.{LineWrittenOf, IsWritten}
-use Rattle.watcher.specs.Answer.{OpenAnswers}
 use Rattle.watching.specs.declared.Phase.{Phase}
 use Rattle.watching.specs.declared.Phase.TheVariants.{Fresh, Running, Ended}
 use Rattle.watching.specs.declared.Run.{Run}
