@@ -42,8 +42,9 @@ impl<const N: usize> Backwards<N> {
         ensures counts { length self.new ≡ min N (length self.old + 1) }
     {
         if self.from > 0 {
-            self.from -= 1;
-            self.bytes[self.from] = byte;
+            let place = self.from - 1;
+            self.bytes[place] = byte;
+            self.from = place;
         }
     }
 

@@ -18,12 +18,12 @@ pub record Seeing (rows masks : List ℕ) (sum i : ℕ) : Type 0 where
   pub last : Exactly sum (Before rows i)
   pub masked : (k : ℕ) → k ≤ i → Exactly (get_or masks k 0) (Before rows k)
 
-pub seeing_none : (rows masks : List ℕ) → length masks ≡ 65 → get_or masks 0 0 ≡ 0 → Seeing rows masks 0 0
-seeing_none rows masks h z = record {
-  long = h;
+pub seeing_none : (rows masks : List ℕ) → length masks ≡ 65 → Seeing rows (set masks 0 0) 0 0
+seeing_none rows masks h = record {
+  long = length-set masks 0 0 ∙ h;
   upto = omega arith;
   last = before_none rows;
-  masked = λ k l. let e : k ≡ 0 = omega arith in rw (e, z) (before_none rows);
+  masked = λ k l. let e : k ≡ 0 = omega arith in rw (e, get_or-set_same masks 0 0 0 (omega arith)) (before_none rows);
 }
 
 pub seeing_more : (rows masks : List ℕ) (sum i : ℕ) → i < 64 → Seeing rows masks sum i

@@ -10,7 +10,7 @@ use native.Mathlib.Decide.{dec_lt, dec_le, ℕ_discrete}
 use lib.Bits.{bit_and, bit_or}
 use lib.ListN.{get_or, length, get_or-eq_default}
 use lib.Pow.{shl_exact}
-use Rattle.rules.specs.declared.Op.TheVariants.{Both}
+use Rattle.rules.specs.declared.Op.TheVariants.{Both, Without}
 use Rattle.rules.specs.Bits.{bit, On}
 use Rattle.rules.specs.Instances.{Rule}
 use Rattle.plain.specs.Rows.{Shown}
@@ -123,6 +123,13 @@ pub chain_at : (x : List ℕ) (y u r : ℕ) → IsLatest y (Some u) → Exactly 
 chain_at x y u r l f s = (
   (λ h. let b = (f s).0 h in (b.0, u, b.2, l.0, b.1)),
   (λ p. (f s).1 (p.0, omega (arith, latest_le y u p.1 l p.3, p.4), p.2)),
+)
+
+-- `-`, by the starts of y that end by e
+pub without : (x y : List ℕ) (e py r : ℕ) → Exactly py (Before y (e + 1)) → Exactly r (λ s. On (get_or x e 0) s × ((t : ℕ) → On py t → s ≤ t → ⊥)) → Exactly r (λ s. Rule Without (Shown x) (Shown y) s e)
+without x y e py r g f s = (
+  (λ h. (((f s).0 h).0, (λ p t l m i. ((f s).0 h).1 p ((g p).1 (t, omega arith, i)) l))),
+  (λ q. (f s).1 (q.0, (λ t h l. let b = (g t).0 h in q.1 t b.0 l (omega (arith, b.1)) b.2))),
 )
 
 -- `+`, by the starts of each side that end by e

@@ -7,7 +7,8 @@ ghost use Rattle.rules.specs.Instances.{Occurs, Rule, Short};
 ghost use Rattle.plain.specs.Row.{Exactly, IsLatest};
 ghost use Rattle.plain.specs.Rows.{Shown, rows_of, worded};
 ghost use Rattle.plain.specs.Answer.{Answers, RowsAfter, Ready};
-ghost use Rattle.plain.specs.inner.Fill.{Seen, Lesser, Masked, Filled, FilledBy};
+ghost use Rattle.plain.specs.inner.Fill.{Seen, Lesser, Masked, Operands, Filled, FilledBy};
+ghost use Rattle.rules.specs.declared.Op.TheVariants.{Either, Both, Without, Chain};
 
 use body::Entry;
 use refusal::Refusal;
@@ -126,30 +127,30 @@ fn letter_row(events: u32, kind: u64, e: usize) -> u64
 }
 
 // The rows of entry k, a restriction of entry x.
+#[tactic(auto, using(crate::proofs::Fills::length_rows))]
 fn fill_within(rows: &mut [u64], limit: u64, x: usize, k: usize)
     requires { (x < k) × (k * 64 + 64 ≤ length rows.old) }
     ensures { Filled (Short limit (Shown (rows_of rows.old x))) k rows.old rows.new }
 {
-    let operand = entry_rows(rows, x);
+    let (before, from_k) = rows.split_at_mut(k * ROWS);
+    let operand = entry_rows(before, x);
     fill(
-        rows,
-        k,
+        from_k,
+        0,
         |e|
-            requires { e < 64 }
-            ensures { Exactly result (λ s. Short limit (Shown operand) s e) }
+            requires { e < length operand.now }
+            ensures { Exactly result (λ s. Short limit (Shown operand.entry.now) s e) }
         { within_row(operand[e], e as u64, limit) },
     );
 }
 
-// A copy of the rows of entry x.
-fn entry_rows(rows: &[u64], x: usize) -> [u64; ROWS]
+// The rows of entry x.
+fn entry_rows(rows: &[u64], x: usize) -> &[u64]
     requires { x * 64 + 64 ≤ length rows.now }
-    ensures { result ≡ rows_of rows.now x }
+    ensures { result.now ≡ rows_of rows.now x }
 {
-    let mut made = [0u64; ROWS];
     let at = x * ROWS;
-    made.copy_from_slice(&rows[at..at + ROWS]);
-    made
+    &rows[at..at + ROWS]
 }
 
 // The starts of row e that are at most `limit` before it.
@@ -167,48 +168,109 @@ fn earliest(e: u64, limit: u64) -> u64
 }
 
 // The rows of entry k, an operator on the entries x and y.
+#[tactic(auto, using(crate::proofs::Fills::length_rows))]
 fn fill_pair(rows: &mut [u64], op: Op, x: usize, y: usize, k: usize)
     requires { (x < k) × (y < k) × (k * 64 + 64 ≤ length rows.old) }
     ensures { Filled (Rule op (Shown (rows_of rows.old x)) (Shown (rows_of rows.old y))) k rows.old rows.new }
 {
-    let left = entry_rows(rows, x);
-    let right = entry_rows(rows, y);
-    let seen_left = seen(&left);
-    let seen_right = seen(&right);
+    let (before, from_k) = rows.split_at_mut(k * ROWS);
+    let left = entry_rows(before, x);
+    let right = entry_rows(before, y);
+    match op {
+        Op::Either => fill_either(from_k, left, right),
+        Op::Both => fill_both(from_k, left, right),
+        Op::Without => fill_without(from_k, left, right),
+        Op::Chain => fill_chain(from_k, left, right),
+    }
+}
+
+// The rows of `|`: the starts of either row.
+fn fill_either(rows: &mut [u64], left: &[u64], right: &[u64])
+    requires { Operands rows.old left.now right.now }
+    ensures { Filled (Rule Either (Shown left.now) (Shown right.now)) 0 rows.old rows.new }
+{
     fill(
         rows,
-        k,
+        0,
         |e|
-            requires { Masked left seen_left e × Masked right seen_right e }
-            ensures { Exactly result (λ s. Rule op (Shown left) (Shown right) s e) }
-        { pair_row(op, &left, &right, &seen_left, &seen_right, e) },
+            requires { (e < length left.now) × (e < length right.now) }
+            ensures { Exactly result (λ s. Rule Either (Shown left.entry.now) (Shown right.entry.now) s e) }
+        { either(left[e], right[e]) },
     );
 }
 
-// For each k up to 64, the starts of the rows below k.
-fn seen(rows: &[u64; ROWS]) -> [u64; ROWS + 1]
-    ensures { Seen rows.now result }
+// The rows of `+`: the lesser of a start of either row and one seen so far of the other operand.
+fn fill_both(rows: &mut [u64], left: &[u64], right: &[u64])
+    requires { Operands rows.old left.now right.now }
+    ensures { Filled (Rule Both (Shown left.now) (Shown right.now)) 0 rows.old rows.new }
 {
-    let mut masks = [0u64; ROWS + 1];
+    let mut seen_left = [0u64; ROWS + 1];
+    let mut seen_right = [0u64; ROWS + 1];
+    see(left, &mut seen_left);
+    see(right, &mut seen_right);
+    fill(
+        rows,
+        0,
+        |e|
+            requires { Masked left.now seen_left e × Masked right.now seen_right e }
+            ensures { Exactly result (λ s. Rule Both (Shown left.entry.now) (Shown right.entry.now) s e) }
+        {
+            either(
+                lesser(left[e], seen_right[e + 1]),
+                lesser(right[e], seen_left[e + 1]),
+            )
+        },
+    );
+}
+
+// The rows of `-`: the starts that are above each one seen so far of the right operand.
+fn fill_without(rows: &mut [u64], left: &[u64], right: &[u64])
+    requires { Operands rows.old left.now right.now }
+    ensures { Filled (Rule Without (Shown left.now) (Shown right.now)) 0 rows.old rows.new }
+{
+    let mut seen_right = [0u64; ROWS + 1];
+    see(right, &mut seen_right);
+    fill(
+        rows,
+        0,
+        |e|
+            requires { (e < length left.now) × Masked right.now seen_right e }
+            ensures { Exactly result (λ s. Rule Without (Shown left.entry.now) (Shown right.entry.now) s e) }
+        {
+            // named here, so that the clauses above may speak of these rows
+            let _rows = right;
+            above(left[e], seen_right[e + 1])
+        },
+    );
+}
+
+// The rows of `;`: the starts of the left operand that were seen before the latest start of the right row.
+fn fill_chain(rows: &mut [u64], left: &[u64], right: &[u64])
+    requires { Operands rows.old left.now right.now }
+    ensures { Filled (Rule Chain (Shown left.now) (Shown right.now)) 0 rows.old rows.new }
+{
+    let mut seen_left = [0u64; ROWS + 1];
+    see(left, &mut seen_left);
+    fill(
+        rows,
+        0,
+        |e|
+            requires { Seen left.now seen_left × (e < length right.now) }
+            ensures { Exactly result (λ s. Rule Chain (Shown left.entry.now) (Shown right.entry.now) s e) }
+        { chain_row(right[e], left, &seen_left) },
+    );
+}
+
+// For each k up to 64, the starts of the rows below k. The masks are lent: given by value they are copied twice.
+fn see(rows: &[u64], masks: &mut [u64; ROWS + 1])
+    requires { length rows.now ≡ 64 }
+    ensures { Seen rows.now masks.new }
+{
+    masks[0] = 0;
     let mut sum: u64 = 0;
     for i in 0..ROWS {
         sum |= rows[i];
         masks[i + 1] = sum;
-    }
-    masks
-}
-
-// Row e of an operator, from its operands' rows and their masks.
-// They come one by one: a struct of an operand's rows and masks is copied, and makes the evaluator a sixth slower.
-fn pair_row(op: Op, x: &[u64], y: &[u64], left: &[u64], right: &[u64], e: usize) -> u64
-    requires { Masked x.now left.now e × Masked y.now right.now e }
-    ensures { Exactly result (λ s. Rule op (Shown x.now) (Shown y.now) s e) }
-{
-    match op {
-        Op::Either => either(x[e], y[e]),
-        Op::Both => either(lesser(x[e], right[e + 1]), lesser(y[e], left[e + 1])),
-        Op::Without => above(x[e], right[e + 1]),
-        Op::Chain => chain_row(y[e], x, left),
     }
 }
 

@@ -67,7 +67,14 @@ impl Refusal {
             Refusal::State(index) => index as u64,
             Refusal::Range(index) => index as u64,
             Refusal::Late(index) => index as u64,
-            _ => 0,
+            Refusal::Long
+            | Refusal::Many
+            | Refusal::Count
+            | Refusal::Size
+            | Refusal::Record
+            | Refusal::Full
+            | Refusal::Line
+            | Refusal::Absent => 0,
         }
     }
 
@@ -77,7 +84,20 @@ impl Refusal {
     {
         match self {
             Refusal::Body(fault) => fault.entry as u64,
-            _ => 0,
+            Refusal::Long
+            | Refusal::Syntax(_)
+            | Refusal::Many
+            | Refusal::Count
+            | Refusal::Entry(_)
+            | Refusal::Size
+            | Refusal::Room(_)
+            | Refusal::State(_)
+            | Refusal::Range(_)
+            | Refusal::Late(_)
+            | Refusal::Record
+            | Refusal::Full
+            | Refusal::Line
+            | Refusal::Absent => 0,
         }
     }
 

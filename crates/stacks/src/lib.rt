@@ -46,8 +46,9 @@ impl<T: Copy, const N: usize> Stack<T, N> {
         requires { length self.old < N }
         ensures { self.new ≡ value ∷ self.old }
     {
-        self.values[self.count] = value;
-        self.count += 1;
+        let place = self.count;
+        self.values[place] = value;
+        self.count = place + 1;
     }
 
     // Takes the value on top.

@@ -1,5 +1,5 @@
 -- The ways through `write_tree`: the last entry says what tree it ends, and where its operands end. Assumes nothing.
-use Rattle.std.proofs.Common.{◌≡◌, ℕ, zero, suc, ◌+◌, ◌-◌, ◌<◌, List, [], ◌∷◌, ◌++◌, length, sym, refl, ap, ◌∙◌, subst, append_assoc, arith, length-append}
+use Rattle.std.proofs.Common.{◌≡◌, ℕ, zero, suc, ◌+◌, ◌-◌, min, ◌<◌, List, [], ◌∷◌, ◌++◌, length, sym, refl, ap, ◌∙◌, subst, append_assoc, arith, length-append}
 use Rattle.rules.proofs.Impossible.{impossible}
 use Rattle.rules.specs.declared.Op.{Op}
 use Rattle.rules.specs.Limits.{letters, argument_bytes}
@@ -108,16 +108,30 @@ some_entry b k r =
     let n = count_entries (entry_at argument_bytes b) 0 k _ r.ends in
     omega (arith, length-append r.others (postfix r.tree), length_postfix r.tree, size_pos r.tree)
 
+-- what each write ensures: bytes are written before what was written, and how many are written then
+abbrev Counted : List ℕ → List ℕ → List ℕ → Type 0
+Counted d d' ws = record { written : Before most_printed d d' ws; counts : length d' ≡ min most_printed (length d + length ws) }
+
+-- one part and another before it
+counted_it : (d d₁ d₂ vs ws : List ℕ) → Counted d d₁ ws → Counted d₁ d₂ vs → Counted d d₂ (vs ++ ws)
+counted_it d d₁ d₂ vs ws t u = record {
+  written = before_it most_printed d d₁ d₂ vs ws t.written u.written;
+  counts = omega (arith, t.counts, u.counts, length-append vs ws);
+}
+
 -- a bracket, written backwards: `)`, what follows the sign, the sign, the left operand, `(`
 bracket : (d d₁ d₂ d₃ d₄ d₅ : List ℕ) (c : ℕ) (vs ws : List ℕ)
-    → Before most_printed d d₁ (41 ∷ []) → Before most_printed d₁ d₂ ws → Before most_printed d₂ d₃ (c ∷ [])
-    → Before most_printed d₃ d₄ vs → Before most_printed d₄ d₅ (40 ∷ [])
-    → Before most_printed d d₅ (40 ∷ (vs ++ (c ∷ (ws ++ (41 ∷ [])))))
+    → Counted d d₁ (41 ∷ []) → Counted d₁ d₂ ws → Counted d₂ d₃ (c ∷ []) → Counted d₃ d₄ vs → Counted d₄ d₅ (40 ∷ [])
+    → Counted d d₅ (40 ∷ (vs ++ (c ∷ (ws ++ (41 ∷ [])))))
 bracket d d₁ d₂ d₃ d₄ d₅ c vs ws t w u v o =
-    let operand = before_it most_printed d d₁ d₂ ws (41 ∷ []) t w in
-    let sign = before_it most_printed d d₂ d₃ (c ∷ []) (ws ++ (41 ∷ [])) operand u in
-    let both = before_it most_printed d d₃ d₄ vs (c ∷ (ws ++ (41 ∷ []))) sign v in
-    before_it most_printed d d₄ d₅ (40 ∷ []) (vs ++ (c ∷ (ws ++ (41 ∷ [])))) both o
+    let operand = counted_it d d₁ d₂ ws (41 ∷ []) t w in
+    let sign = counted_it d d₂ d₃ (c ∷ []) (ws ++ (41 ∷ [])) operand u in
+    let both = counted_it d d₃ d₄ vs (c ∷ (ws ++ (41 ∷ []))) sign v in
+    counted_it d d₄ d₅ (40 ∷ []) (vs ++ (c ∷ (ws ++ (41 ∷ [])))) both o
+
+-- the text of a tree is such a part
+text_of : {d d' : List ℕ} {e : Pattern} {others : List Entry} {entry : ℕ} → IsTree d d' e others entry → Counted d d' (render e)
+text_of y = record { written = y.text; counts = y.counts }
 
 module _ (b : List ℕ) (k : ℕ) where
   -- a letter
@@ -125,10 +139,10 @@ module _ (b : List ℕ) (k : ℕ) where
     pub letter_ready : TreeReady b k → n < letters
     letter_ready r = let p = ends_in b k r.others r.tree s r.ends in subst (Proper numbers) p.tree r.proper
 
-    pub letter_written : (d d' : List ℕ) → Before most_printed d d' (letter_byte n ∷ []) → TreeWritten b k d d' (k - 1)
+    pub letter_written : (d d' : List ℕ) → Counted d d' (letter_byte n ∷ []) → TreeWritten b k d d' (k - 1)
     letter_written d d' t others e q =
         let p = ends_in b k others e s q in
-        record { first_entry = omega (arith, p.count); text = rw p.tree t }
+        rw p.tree (record { first_entry = omega (arith, p.count); text = t.written; counts = t.counts })
 
   -- an operator
   module _ (op : Op) (s : Pair op ≡ entry_at argument_bytes b (k - 1)) where
@@ -163,17 +177,15 @@ module _ (b : List ℕ) (k : ℕ) where
         }
 
     pub pair_written : (d d₁ d₂ d₃ d₄ d₅ : List ℕ) (entry entry₁ : ℕ)
-        → Before most_printed d d₁ (41 ∷ []) → TreeWritten b (k - 1) d₁ d₂ entry
-        → Before most_printed d₂ d₃ (op_byte op ∷ []) → TreeWritten b entry d₃ d₄ entry₁
-        → Before most_printed d₄ d₅ (40 ∷ []) → TreeWritten b k d d₅ entry₁
+        → Counted d d₁ (41 ∷ []) → TreeWritten b (k - 1) d₁ d₂ entry
+        → Counted d₂ d₃ (op_byte op ∷ []) → TreeWritten b entry d₃ d₄ entry₁
+        → Counted d₄ d₅ (40 ∷ []) → TreeWritten b k d d₅ entry₁
     pair_written d d₁ d₂ d₃ d₄ d₅ entry entry₁ t w u v o others e q =
         let p = ends_in b k others e s q in
         let y = w (others ++ postfix p.left) p.right p.ends in
         let x = v others p.left (rw y.first_entry p.starts) in
-        record {
-          first_entry = x.first_entry;
-          text = rw p.tree (bracket d d₁ d₂ d₃ d₄ d₅ (op_byte op) (render p.left) (render p.right) t y.text u x.text o);
-        }
+        let all = bracket d d₁ d₂ d₃ d₄ d₅ (op_byte op) (render p.left) (render p.right) t (text_of y) u (text_of x) o in
+        rw p.tree (record { first_entry = x.first_entry; text = all.written; counts = all.counts })
 
   -- a restriction
   module _ (n : ℕ) (s : Within n ≡ entry_at argument_bytes b (k - 1)) where
@@ -188,13 +200,11 @@ module _ (b : List ℕ) (k : ℕ) where
       limited_ready = record { tree = part.left; others = r.others; ends = part.ends; proper = part_proper.0 }
 
     pub within_written : (d d₁ d₂ d₃ d₄ d₅ : List ℕ) (entry : ℕ)
-        → Before most_printed d d₁ (41 ∷ []) → Before most_printed d₁ d₂ (decimal n)
-        → Before most_printed d₂ d₃ (64 ∷ []) → TreeWritten b (k - 1) d₃ d₄ entry
-        → Before most_printed d₄ d₅ (40 ∷ []) → TreeWritten b k d d₅ entry
+        → Counted d d₁ (41 ∷ []) → Counted d₁ d₂ (decimal n)
+        → Counted d₂ d₃ (64 ∷ []) → TreeWritten b (k - 1) d₃ d₄ entry
+        → Counted d₄ d₅ (40 ∷ []) → TreeWritten b k d d₅ entry
     within_written d d₁ d₂ d₃ d₄ d₅ entry t w u v o others e q =
         let p = ends_in b k others e s q in
         let x = v others p.left p.ends in
-        record {
-          first_entry = x.first_entry;
-          text = rw p.tree (bracket d d₁ d₂ d₃ d₄ d₅ 64 (render p.left) (decimal n) t w u x.text o);
-        }
+        let all = bracket d d₁ d₂ d₃ d₄ d₅ 64 (render p.left) (decimal n) t w u (text_of x) o in
+        rw p.tree (record { first_entry = x.first_entry; text = all.written; counts = all.counts })

@@ -25,6 +25,10 @@ pub record Masked (rows masks : List ℕ) (e : ℕ) : Type 0 where
   pub seen : Seen rows masks
   pub row : e < 64
 
+-- there is room for 64 rows, and an operator's operands have as many each
+abbrev pub Operands : List ℕ → List ℕ → List ℕ → Type 0
+Operands rows left right = (most_words ≤ length rows) × (length left ≡ most_words) × (length right ≡ most_words)
+
 -- entry k's rows are each a possible row of its number, and no other word changed
 pub record FilledBy (Row : ℕ → ℕ → Type 0) (k : ℕ) (old new : List ℕ) : Type 0 where
   pub kept : (i : ℕ) → ((i < k * most_words) ⊎ (k * most_words + most_words ≤ i)) → get_or new i 0 ≡ get_or old i 0

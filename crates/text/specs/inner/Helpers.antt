@@ -1,6 +1,6 @@
 -- What the functions below `read_pattern` and `print_pattern` promise; no public contract cites these.
 -- Assumes nothing: these are definitions.
-use Rattle.std.specs.Prelude.{◌≡◌, ℕ, ◌+◌, ◌<◌, ◌≤◌, List, ◌∷◌, ◌++◌, length, drop, Result, Ok, Err}
+use Rattle.std.specs.Prelude.{◌≡◌, ℕ, ◌+◌, min, ◌<◌, ◌≤◌, List, ◌∷◌, ◌++◌, length, drop, Result, Ok, Err}
 use Rattle.rules.specs.declared.Op.{Op}
 use Rattle.rules.specs.Limits.{argument_bytes}
 use Rattle.rules.specs.Pattern.{Pattern, pair, within, size, Proper}
@@ -94,10 +94,11 @@ pub record TreeReady (b : List ℕ) (k : ℕ) : Type 0 where
   pub ends : Ends b k others tree
   pub proper : Proper numbers tree
 
--- that tree begins at the entry, and its text is written before what was written
+-- that tree begins at the entry, and its text is written before what was written. Where there is no room for all of it, the room is full
 pub record IsTree (d d' : List ℕ) (e : Pattern) (others : List Entry) (entry : ℕ) : Type 0 where
   pub first_entry : entry ≡ length others
   pub text : Before most_printed d d' (render e)
+  pub counts : length d' ≡ min most_printed (length d + length (render e))
 
 abbrev pub TreeWritten : List ℕ → ℕ → List ℕ → List ℕ → ℕ → Type 0
 TreeWritten b k d d' entry = (others : List Entry) (e : Pattern) → Ends b k others e → IsTree d d' e others entry

@@ -23,25 +23,25 @@ pub write_tree-left-requires-in-Within : goal.write_tree-left-requires-in-Within
 write_tree-left-requires-in-Within t c = (omega (arith, some_entry _ _ c.requires), limited_ready _ _ _ c.in-Within.ensures c.requires)
 
 pub returns-in-Letter : goal.returns-in-Letter
-returns-in-Letter t c = letter_written _ _ _ c.in-Letter.ensures _ _ (rw c.letter_byte.ensures at c.byte.ensures.written)
+returns-in-Letter t c = letter_written _ _ _ c.in-Letter.ensures _ _ (rw c.letter_byte.ensures at c.byte.ensures)
 
 pub returns-in-Pair : goal.returns-in-Pair
 returns-in-Pair t c =
     pair_written _ _ _ c.in-Pair.ensures _ _ _ _ _ _ _ _
-    c.byte-in-Pair.ensures.written
+    c.byte-in-Pair.ensures
     c.write_tree-right.ensures
-    (rw c.op_byte.ensures at c.byte-in-Pair-2.ensures.written)
+    (rw c.op_byte.ensures at c.byte-in-Pair-2.ensures)
     c.write_tree-left.ensures
-    c.byte-in-Pair-3.ensures.written
+    c.byte-in-Pair-3.ensures
 
 pub returns-in-Within : goal.returns-in-Within
 returns-in-Within t c =
     within_written _ _ _ c.in-Within.ensures _ _ _ _ _ _ _
-    c.byte-in-Within.ensures.written
-    c.number.ensures.written
-    c.byte-in-Within-2.ensures.written
+    c.byte-in-Within.ensures
+    c.number.ensures
+    c.byte-in-Within-2.ensures
     c.write_tree-left-in-Within.ensures
-    c.byte-in-Within-3.ensures.written
+    c.byte-in-Within-3.ensures
 
 pub returns-in-Wrong : goal.returns-in-Wrong
 returns-in-Wrong t c = absurd (not_wrong _ _ c.in-Wrong.ensures c.requires)
