@@ -32,11 +32,12 @@ impl Made {
         ensures written { Written self.old.bytes self.new.bytes self.old.entries (op ∷ bytes_of argument_bytes argument) }
         ensures counted { self.new.entries ≡ self.old.entries + 1 }
     {
-        if self.entries < MOST_ENTRIES {
-            let at = self.entries * ENTRY_BYTES;
+        let entries = self.entries;
+        if entries < MOST_ENTRIES {
+            let at = entries * ENTRY_BYTES;
             self.bytes[at] = op;
             self.bytes[at + 1..at + ENTRY_BYTES].copy_from_slice(&(argument as u32).to_le_bytes());
         }
-        self.entries += 1;
+        self.entries = entries + 1;
     }
 }
