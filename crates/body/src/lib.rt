@@ -36,7 +36,7 @@ pub fn check_body(body: &[u8]) -> Result<(), Refusal>
 }
 
 // The lowest entry of a body that breaks a rule, or the number of entries if they do not make exactly one tree.
-// It is no part of its callers, so that the packing of a refusal does not get into the loop.
+// It is not inlined: the packing of a refusal, which its callers do, would get into the loop.
 #[inline(never)]
 #[tactic(auto, using(crate::proofs::Scan::scan_turn, crate::proofs::Scan::scan_end, crate::proofs::Scan::step_le), unfolding(crate::specs::Entry::entries))]
 pub fn fault_in(body: &[u8]) -> Option<usize>

@@ -38,6 +38,7 @@ pub(crate) fn read_number(line: &[u8]) -> Option<Number>
 }
 
 // The word of the events of these letters; none where there are no letters, or they do not stand in type order.
+// `?` in place of `let` tests each letter twice: two more instructions for each.
 #[tactic(auto, using(crate::proofs::Readings::letter_ways))]
 pub(crate) fn read_letters(letters: &[u8]) -> Option<u32>
     ensures { result ≡ word_of letters.now }
@@ -45,7 +46,9 @@ pub(crate) fn read_letters(letters: &[u8]) -> Option<u32>
     let mut events: u32 = 0;
     let mut next: u8 = 0;
     for byte in letters {
-        let kind = text::letter(*byte)?;
+        let Some(kind) = text::letter(*byte) else {
+            return None;
+        };
         if kind < next {
             return None;
         }

@@ -58,6 +58,7 @@ filled_after Row k before old new long f = record { kept = kept; made = made }
         let place : k * 64 + e - k * 64 ≡ 0 * 64 + e = omega arith in
         rw (at new (k * 64 + e) (omega arith), place) (f.made e h)
 
+-- the rows of an entry before k are read in the part before the rows of k
 pub read_before : (l before rows : List ℕ) (a k : ℕ) → a < k → k * 64 ≤ length l → before ≡ take (k * 64) l → rows ≡ rows_of before a → rows ≡ rows_of l a
 read_before l before rows a k h m p q = q ∙ ap (λ b. rows_of b a) p ∙ rows_before l a k h m
 
