@@ -51,7 +51,6 @@ pub(crate) fn chain_step(cell: &mut [u64], starts: &[u64], x: u64, y: u64, end: 
 }
 
 // The answer, and then the kept pairs as they become. Without possible starts of y there is no pair but latest.
-#[tactic(auto, using(detector::proofs::Order::gather_length, crate::proofs::KeptLaws::kept_stored))]
 pub(crate) fn choose_and_keep(cell: &mut [u64], starts: &[u64], y: u64) -> u64
     requires { (length starts.now ≤ 62) × (length cell.old ≡ 2 * (1 + length starts.now)) }
     ensures { (result ≡ (choose (pairs_of cell.old) y).start) × (cell.new ≡ kept_after starts.now cell.old) }
@@ -59,6 +58,16 @@ pub(crate) fn choose_and_keep(cell: &mut [u64], starts: &[u64], y: u64) -> u64
     if starts.len() == 0 {
         return start_before(cell[0], cell[1], y);
     }
+    choose_among_pairs(cell, starts, y)
+}
+
+// The same by the pairs kept. It is not inlined: its loops would take registers from every tick.
+#[inline(never)]
+#[tactic(auto, using(detector::proofs::Order::gather_length, crate::proofs::KeptLaws::kept_stored))]
+fn choose_among_pairs(cell: &mut [u64], starts: &[u64], y: u64) -> u64
+    requires { (length starts.now ≤ 62) × (length cell.old ≡ 2 * (1 + length starts.now)) }
+    ensures { (result ≡ (choose (pairs_of cell.old) y).start) × (cell.new ≡ kept_after starts.now cell.old) }
+{
     let pairs = crate::pair::pairs_in(cell);
     let answer = crate::pair::choose_pair(pairs, y);
     let mut kept = Kept::new();
